@@ -18,10 +18,14 @@ letters = 0 ∷ 1 ∷ 2 ∷ 3 ∷ []
 abbrev pub Word : Type 0
 Word = List ℕ
 
+-- each of some digits is below the base
+abbrev pub Digits : ℕ → List ℕ → Type 0
+Digits base [] = Unit {0}
+Digits base (d ∷ ds) = (d < base) × Digits base ds
+
 -- each letter of a word is one of the four
 abbrev pub Letters : Word → Type 0
-Letters [] = Unit {0}
-Letters (a ∷ x) = (a < 4) × Letters x
+Letters = Digits 4
 
 -- x is a k-mer: k letters, each one of the four
 abbrev pub Mer : ℕ → Word → Type 0

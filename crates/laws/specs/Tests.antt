@@ -1,13 +1,12 @@
 -- Tests: what follows from a joined test, and when two words are one.
 -- Assumes nothing.
 use Prim.Native.Nat.{ℕ}
-use mathlib.Core.Bool.{Bool, true, false, not, _&&_, _||_, true≢false}
-use mathlib.Core.List.{List, [], _∷_, List·Memᴰ, List·Memᴰ·head, List·Memᴰ·tail, List·Memᴰ·cases-cons, List·Memᴰ·not-nil}
-use mathlib.Core.Logic.{_⊎_, inl, inr, ⊎-elim}
+use mathlib.Core.Bool.{Bool, true, false, _&&_, _||_, true≢false}
+use mathlib.Core.List.{[], _∷_}
+use mathlib.Core.Logic.{_⊎_, inl, inr}
 use mathlib.Core.Path.{_≡_, refl, sym, ap, ap₂, _∙_}
 use borrow.Author.Tests.{eqb-true, eq-eqb}
 use lib.Dec.{eqb}
-use Rattle.definitions.specs.Lists.{put, filter, all}
 use Rattle.definitions.specs.Words.{Word, same}
 
 -- ---- and, or
@@ -64,29 +63,3 @@ same-eq (a ∷ u) (b ∷ v) e =
 pub same-refl : (u : Word) → same u u ≡ true
 same-refl [] = refl
 same-refl (a ∷ u) = and-i (eqb a a) (same u u) (eq-eqb a a refl) (same-refl u)
-
--- ---- membership
-
-module _ {A : Type 0} where
-  -- what is chosen passes the test, and was there
-  filter-sound-at : (p : A → Bool) (a : A) (l : List A) {x : A} (t : Bool) → p a ≡ t
-      → (List·Memᴰ x (filter p l) → List·Memᴰ x l × (p x ≡ true)) → List·Memᴰ x (put t a (filter p l)) → List·Memᴰ x (a ∷ l) × (p x ≡ true)
-  filter-sound-at p a l true e rec m =
-      ⊎-elim (λ q. (List·Memᴰ·head q, ap p q ∙ e)) (λ r. (List·Memᴰ·tail (rec r .0), rec r .1)) (List·Memᴰ·cases-cons m)
-  filter-sound-at p a l false e rec m = (List·Memᴰ·tail (rec m .0), rec m .1)
-
-  pub filter-sound : (p : A → Bool) (l : List A) {x : A} → List·Memᴰ x (filter p l) → List·Memᴰ x l × (p x ≡ true)
-  filter-sound p [] h = absurd (List·Memᴰ·not-nil h)
-  filter-sound p (a ∷ l) h = filter-sound-at p a l (p a) refl (λ r. filter-sound p l r) h
-
-  -- what was there and passes the test is chosen
-  filter-complete-at : (p : A → Bool) (a : A) (l : List A) {x : A} (t : Bool) → p a ≡ t → p x ≡ true
-      → (List·Memᴰ x l → List·Memᴰ x (filter p l)) → (x ≡ a) ⊎ List·Memᴰ x l → List·Memᴰ x (put t a (filter p l))
-  filter-complete-at p a l true e px rec (inl q) = List·Memᴰ·head q
-  filter-complete-at p a l true e px rec (inr m) = List·Memᴰ·tail (rec m)
-  filter-complete-at p a l false e px rec (inl q) = absurd (contrary (p a) (ap p (sym q) ∙ px) e)
-  filter-complete-at p a l false e px rec (inr m) = rec m
-
-  pub filter-complete : (p : A → Bool) (l : List A) {x : A} → List·Memᴰ x l → p x ≡ true → List·Memᴰ x (filter p l)
-  filter-complete p [] h px = absurd (List·Memᴰ·not-nil h)
-  filter-complete p (a ∷ l) h px = filter-complete-at p a l (p a) refl px (λ m. filter-complete p l m px) (List·Memᴰ·cases-cons h)
