@@ -1,2 +1,14 @@
 pub mod Tests
 pub mod Filters
+pub mod Numbers
+pub mod Minima
+pub mod Scans
+pub mod Counting
+pub mod Catalogue
+pub mod Walks
+pub mod Orders
+pub mod States
+pub mod Threads
+pub mod Acceptors
+pub mod Tables
+pub mod Rules

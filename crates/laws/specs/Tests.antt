@@ -37,6 +37,11 @@ pub or-cases : (a b : Bool) → (a || b) ≡ true → (a ≡ true) ⊎ (b ≡ tr
 or-cases true b e = inl refl
 or-cases false b e = inr e
 
+-- beside a test only the words that pass it matter
+pub and-cong : (a b c : Bool) → (a ≡ true → b ≡ c) → (a && b) ≡ (a && c)
+and-cong true b c h = h refl
+and-cong false b c h = refl
+
 -- two tests are equal where each implies the other
 pub test-ext : (a b : Bool) → (a ≡ true → b ≡ true) → (b ≡ true → a ≡ true) → a ≡ b
 test-ext true b f g = sym (f refl)

@@ -1,0 +1,154 @@
+-- Forms that go letter by letter, by a ranking for each place: the keyed form is one, and under such a form words are compared
+-- letter by letter. All laws of shelves are proved over these.
+-- Assumes nothing.
+use Prim.Native.Nat.{ℕ, zero, suc, _+_, _*_, _/_, _%_, _^_, _<_}
+use mathlib.Core.Bool.{Bool, true, false, not, _&&_, _||_}
+use mathlib.Core.List.{List, [], _∷_}
+use mathlib.Core.Path.{_≡_, refl, sym, ap, ap₂, _∙_, fun-ext}
+use native.Mathlib.Nat.{suc-inj}
+use native.Mathlib.Omega.{arith}
+use lib.Arith.{digits-div, digits-mod}
+use lib.Dec.{ltb, eqb, leb}
+use lib.ListN.{length, getD, take}
+use borrow.Author.Tests.{eqb-true, eq-eqb}
+use Rattle.definitions.specs.Words.{Word, Digits, Letters, sum, _⊕_, val, number}
+use Rattle.definitions.specs.Vigemins.{Form, keyed, value, below, above}
+use Rattle.laws.specs.Tests.{and-l, and-r, and-i, test-ext}
+use Rattle.laws.specs.Numbers.{number-lt, number-less, sum-lt, sum-cancel, sum-zero}
+
+-- for each place the rank of each letter
+abbrev pub Ranking : Type 0
+Ranking = ℕ → ℕ → ℕ
+
+-- the ranks of a word's letters, the first one standing at place p
+abbrev pub rankedFrom : Ranking → ℕ → Form
+rankedFrom ρ p [] = []
+rankedFrom ρ p (a ∷ v) = ρ p a ∷ rankedFrom ρ (suc p) v
+
+-- the form that goes letter by letter, by a ranking for each place
+abbrev pub ranked : Ranking → Form
+ranked ρ = rankedFrom ρ zero
+
+-- the four letters have four ranks at each place, none twice
+pub record OneToOne (ρ : Ranking) : Type 0 where
+  pub small : (p a : ℕ) → a < 4 → ρ p a < 4
+  pub apart : (p a b : ℕ) → a < 4 → b < 4 → ρ p a ≡ ρ p b → a ≡ b
+
+-- ---- the keyed form
+
+-- a key's ranking: the sum with the key's letter at that place
+abbrev pub keyRanking : Word → Ranking
+keyRanking key p a = sum a (getD key p zero)
+
+-- past the key's end a letter is its own rank
+unkeyed : (p : ℕ) (v : Word) → rankedFrom (keyRanking []) p v ≡ v
+unkeyed p [] = refl
+unkeyed p (a ∷ v) = ap₂ (λ (x : ℕ) (y : Word). x ∷ y) (sum-zero a) (unkeyed (suc p) v)
+
+keyed-shift : (c : ℕ) (key : Word) (p : ℕ) (v : Word) → rankedFrom (keyRanking (c ∷ key)) (suc p) v ≡ rankedFrom (keyRanking key) p v
+keyed-shift c key p [] = refl
+keyed-shift c key p (a ∷ v) = ap (λ (y : Word). sum a (getD key p zero) ∷ y) (keyed-shift c key (suc p) v)
+
+keyed-at : (key v : Word) → v ⊕ key ≡ ranked (keyRanking key) v
+keyed-at key [] = refl
+keyed-at [] (a ∷ v) = sym (unkeyed zero (a ∷ v))
+keyed-at (c ∷ key) (a ∷ v) = ap (λ (y : Word). sum a c ∷ y) (keyed-at key v ∙ sym (keyed-shift c key zero v))
+
+-- the keyed form goes letter by letter
+pub keyed-ranked : (key : Word) → keyed key ≡ ranked (keyRanking key)
+keyed-ranked key = fun-ext (keyed-at key)
+
+letter-at : (key : Word) (p : ℕ) → Letters key → getD key p zero < 4
+letter-at [] p h = omega arith
+letter-at (c ∷ key) zero h = h .0
+letter-at (c ∷ key) (suc p) h = letter-at key p (h .1)
+
+-- and is one-to-one at each place
+pub keyed-one-to-one : (key : Word) → Letters key → OneToOne (keyRanking key)
+keyed-one-to-one key h = record {
+  small = λ p a ha. sum-lt ha (letter-at key p h);
+  apart = λ p a b ha hb e. sum-cancel ha hb (letter-at key p h) e;
+}
+
+-- ---- the order, letter by letter
+
+-- x is below y, or, where that is asked, equal to it
+abbrev pub atMost : Bool → ℕ → ℕ → Bool
+atMost final x y = ltb x y || (final && eqb x y)
+
+-- numbers of equally many digits are equal where all digits are
+pub number-same : (b a c : ℕ) (u v : List ℕ) → Digits b u → Digits b v → length u ≡ length v
+    → eqb (number b (a ∷ u)) (number b (c ∷ v)) ≡ (eqb a c && eqb (number b u) (number b v))
+number-same b a c u v hu hv e =
+    rw (← e) (high-same (b ^ length u) (number b u) (number b v) (number-lt b u hu) (rw e (number-lt b v hv)))
+  where
+    high-same : (m r s : ℕ) → r < m → s < m → eqb (a * m + r) (c * m + s) ≡ (eqb a c && eqb r s)
+    high-same m r s hr hs =
+        test-ext (eqb (a * m + r) (c * m + s)) (eqb a c && eqb r s)
+        (λ q. let x : a * m + r ≡ c * m + s = eqb-true (a * m + r) (c * m + s) q in
+        and-i (eqb a c) (eqb r s) (eq-eqb a c (sym (digits-div a hr) ∙ ap (λ (y : ℕ). y / m) x ∙ digits-div c hs))
+        (eq-eqb r s (sym (digits-mod a hr) ∙ ap (λ (y : ℕ). y % m) x ∙ digits-mod c hs)))
+        (λ q. eq-eqb (a * m + r) (c * m + s)
+        (ap₂ (λ (y z : ℕ). y * m + z) (eqb-true a c (and-l (eqb a c) (eqb r s) q)) (eqb-true r s (and-r (eqb a c) (eqb r s) q))))
+
+module _ (ρ : Ranking) (one : OneToOne ρ) where
+  -- the ranks of letters are letters
+  pub ranked-letters : (p : ℕ) (v : Word) → Letters v → Letters (rankedFrom ρ p v)
+  ranked-letters p [] h = tt
+  ranked-letters p (a ∷ v) h = (one .small p a (h .0), ranked-letters (suc p) v (h .1))
+
+  pub length-ranked : (p : ℕ) (v : Word) → length (rankedFrom ρ p v) ≡ length v
+  length-ranked p [] = refl
+  length-ranked p (a ∷ v) = ap suc (length-ranked (suc p) v)
+
+  ranked-lengths : (p : ℕ) (u v : Word) → length u ≡ length v → length (rankedFrom ρ p u) ≡ length (rankedFrom ρ p v)
+  ranked-lengths p u v e = length-ranked p u ∙ e ∙ sym (length-ranked p v)
+
+  -- one letter has one rank
+  pub rank-same : (p a b : ℕ) → a < 4 → b < 4 → eqb (ρ p a) (ρ p b) ≡ eqb a b
+  rank-same p a b ha hb =
+      test-ext (eqb (ρ p a) (ρ p b)) (eqb a b) (λ e. eq-eqb a b (one .apart p a b ha hb (eqb-true (ρ p a) (ρ p b) e)))
+      (λ e. eq-eqb (ρ p a) (ρ p b) (ap (ρ p) (eqb-true a b e)))
+
+  -- words of one length have one number where their letters are the same
+  ranked-same : (p a b : ℕ) (u v : Word) → Letters (a ∷ u) → Letters (b ∷ v) → length u ≡ length v
+      → eqb (val (rankedFrom ρ p (b ∷ v))) (val (rankedFrom ρ p (a ∷ u)))
+      ≡ (eqb b a && eqb (val (rankedFrom ρ (suc p) v)) (val (rankedFrom ρ (suc p) u)))
+  ranked-same p a b u v hu hv e =
+      number-same 4 (ρ p b) (ρ p a) (rankedFrom ρ (suc p) v) (rankedFrom ρ (suc p) u) (ranked-letters (suc p) v (hv .1)) (ranked-letters (suc p) u (hu .1))
+      (ranked-lengths (suc p) v u (sym e))
+      ∙ ap (λ (t : Bool). t && eqb (val (rankedFrom ρ (suc p) v)) (val (rankedFrom ρ (suc p) u))) (rank-same p b a (hv .0) (hu .0))
+
+  -- words of one length are compared by the ranks of their first letters first
+  pub ranked-atMost : (final : Bool) (p a b : ℕ) (u v : Word) → Letters (a ∷ u) → Letters (b ∷ v) → length u ≡ length v
+      → atMost final (val (rankedFrom ρ p (b ∷ v))) (val (rankedFrom ρ p (a ∷ u)))
+      ≡ (ltb (ρ p b) (ρ p a) || (eqb b a && atMost final (val (rankedFrom ρ (suc p) v)) (val (rankedFrom ρ (suc p) u))))
+  ranked-atMost final p a b u v hu hv e =
+      ap₂ (λ (s t : Bool). s || (final && t))
+      (number-less 4 (ρ p b) (ρ p a) (rankedFrom ρ (suc p) v) (rankedFrom ρ (suc p) u) (ranked-letters (suc p) v (hv .1))
+      (ranked-letters (suc p) u (hu .1)) (ranked-lengths (suc p) v u (sym e))
+      ∙ ap (λ (t : Bool). ltb (ρ p b) (ρ p a) || (t && ltb (val (rankedFrom ρ (suc p) v)) (val (rankedFrom ρ (suc p) u)))) (rank-same p b a (hv .0) (hu .0)))
+      (ranked-same p a b u v hu hv e)
+      ∙ gather (ltb (ρ p b) (ρ p a)) (eqb b a) (ltb (val (rankedFrom ρ (suc p) v)) (val (rankedFrom ρ (suc p) u))) final
+      (eqb (val (rankedFrom ρ (suc p) v)) (val (rankedFrom ρ (suc p) u)))
+    where
+      gather : (l e s f q : Bool) → ((l || (e && s)) || (f && (e && q))) ≡ (l || (e && (s || (f && q))))
+      gather true e s f q = refl
+      gather false true s f q = refl
+      gather false false s true q = refl
+      gather false false s false q = refl
+
+  -- words of one length that are compared by one number are one word
+  value-one-from : (p : ℕ) (v w : Word) → Letters v → Letters w → length v ≡ length w
+      → eqb (val (rankedFrom ρ p v)) (val (rankedFrom ρ p w)) ≡ true → v ≡ w
+  value-one-from p [] [] hv hw e q = refl
+  value-one-from p [] (b ∷ w) hv hw e q = absurd (omega (arith, e))
+  value-one-from p (a ∷ v) [] hv hw e q = absurd (omega (arith, e))
+  value-one-from p (a ∷ v) (b ∷ w) hv hw e q =
+      let k : length v ≡ length w = suc-inj e in
+      let t : (eqb a b && eqb (val (rankedFrom ρ (suc p) v)) (val (rankedFrom ρ (suc p) w))) ≡ true = sym (ranked-same p b a w v hw hv (sym k)) ∙ q in
+      ap₂ (λ (x : ℕ) (y : Word). x ∷ y) (eqb-true a b (and-l (eqb a b) (eqb (val (rankedFrom ρ (suc p) v)) (val (rankedFrom ρ (suc p) w))) t))
+      (value-one-from (suc p) v w (hv .1) (hw .1) k (and-r (eqb a b) (eqb (val (rankedFrom ρ (suc p) v)) (val (rankedFrom ρ (suc p) w))) t))
+
+  pub value-one : (v w : Word) → Letters v → Letters w → length v ≡ length w → value (ranked ρ) v ≡ value (ranked ρ) w → v ≡ w
+  value-one v w hv hw e q = value-one-from zero v w hv hw e (eq-eqb (value (ranked ρ) v) (value (ranked ρ) w) q)

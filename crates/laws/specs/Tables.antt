@@ -1,0 +1,255 @@
+-- The acceptors by states: postmers, antemers and the words of a shelf are accepted letter by letter from a state of w alone, so each
+-- count is a table over (state, letters left), and the words of a shelf are found by walking with the table.
+-- Assumes nothing.
+use Prim.Native.Nat.{ℕ, zero, suc, _+_, _≤_, _<_}
+use mathlib.Core.Bool.{Bool, true, false, cond, not, _&&_, _||_, and-true, and-false, or-false, and-assoc, or-assoc}
+use mathlib.Core.List.{List, [], _∷_, _++_}
+use mathlib.Core.Path.{_≡_, refl, sym, ap, ap₂, _∙_}
+use native.Mathlib.Nat.{zero-add, add-zero, not-suc-le-zero}
+use native.Mathlib.Omega.{arith}
+use borrow.Author.Tests.{eqb-true, eq-eqb}
+use lib.Dec.{eqb}
+use lib.ListN.{length, getD, take, drop, length-append, take-append-drop}
+use lib.Seq.{take-length, drop-length, drop-cons}
+use Rattle.definitions.specs.Lists.{filter}
+use Rattle.definitions.specs.Words.{Word, Letters, Mer, words, same}
+use Rattle.definitions.specs.Vigemins.{windows, vigemin}
+use Rattle.definitions.specs.Shelves.{shelf, antemer, postmer, begins, antemers, postmers}
+use Rattle.laws.specs.Tests.{and-cong, test-ext, same-eq}
+use Rattle.laws.specs.Filters.{any}
+use Rattle.laws.specs.Minima.{windows-mer, vigemin-is}
+use Rattle.laws.specs.Counting.{count, filter-cong, count-cong, count-none, count-first}
+use Rattle.laws.specs.Walks.{accepts, ways, ways-count}
+use Rattle.laws.specs.Orders.{Ranking, OneToOne, ranked, value-one}
+use Rattle.laws.specs.States.{matches, first, longest, state, next, longest-matches, longest-max, longest-le, state-matches, state-step, state-first}
+use Rattle.laws.specs.Threads.{anyTo, anyTo-cong, anyTo-last, caught, oldCaught, newCaught, bad, run, threads-new, anyTo-never}
+use Rattle.laws.specs.Acceptors.{belowHit, not-or, postmer-threads, antemer-threads, holds-threads}
+
+-- ---- beginnings
+
+module _ {S : Type 0} (ok : S → ℕ → ℕ → Bool) (step : S → ℕ → S) (end : S → Bool) where
+  -- whether the letters of u are allowed one after the other, with n letters to follow
+  abbrev pub through : S → Word → ℕ → Bool
+  through s [] n = true
+  through s (b ∷ u) n = ok s (length u + n) b && through (step s b) u n
+
+  -- the state after the letters of u
+  abbrev pub after : S → Word → S
+  after s [] = s
+  after s (b ∷ u) = after (step s b) u
+
+  -- a word is accepted where its beginning is allowed and the rest is accepted from the state after it
+  pub accepts-append : (s : S) (u z : Word) → accepts ok step end s (u ++ z) ≡ (through s u (length z) && accepts ok step end (after s u) z)
+  accepts-append s [] z = refl
+  accepts-append s (b ∷ u) z =
+      ap₂ (λ (n : ℕ) (t : Bool). ok s n b && t) (length-append u z) (accepts-append (step s b) u z)
+      ∙ sym (and-assoc (ok s (length u + length z) b) (through (step s b) u (length z)) (accepts ok step end (after (step s b) u) z))
+
+-- w's own letter leads from a state to the next one
+pub next-first : (w : Word) (i : ℕ) → i < length w → next w i (getD w i 0) ≡ suc i
+next-first w i h = state-first w (suc i) h
+
+-- j letters of w from state i on lead to state i + j
+pub after-first : (w : Word) (ok : ℕ → ℕ → ℕ → Bool) (end : ℕ → Bool) (i j : ℕ) → i + j ≤ length w → after ok (next w) end i (take j (drop i w)) ≡ i + j
+after-first w ok end i zero h = sym (add-zero i)
+after-first w ok end i (suc j) h =
+    ap (λ (u : Word). after ok (next w) end i (take (suc j) u)) (drop-cons w i 0 (omega arith))
+    ∙ ap (λ (s : ℕ). after ok (next w) end s (take j (drop (suc i) w))) (next-first w i (omega arith))
+    ∙ after-first w ok end (suc i) j (omega arith)
+    ∙ (omega arith)
+
+-- a fixed test beside another
+pub count-fixed : (t : Bool) (p : Word → Bool) (n : ℕ) → count (λ x. t && p x) n ≡ cond t (count p n) 0
+count-fixed true p n = refl
+count-fixed false p n = count-none n
+
+-- ---- threads by states
+
+module _ (w : Word) (hit : ℕ → ℕ → ℕ → Bool) (final : Bool) (t : Word) where
+  -- the letter b catches no thread, where n letters and t follow it
+  abbrev pub fine : Word → ℕ → ℕ → Bool
+  fine past n b = not (bad w hit final past (suc (n + length t)) b)
+
+  -- no thread that began before t is caught in t
+  abbrev pub done : Word → Bool
+  done past = not (oldCaught w hit final past t)
+
+  -- the same at a state
+  abbrev pub fineAt : ℕ → ℕ → ℕ → Bool
+  fineAt i = fine (first w i)
+
+  abbrev pub doneAt : ℕ → Bool
+  doneAt i = done (first w i)
+
+  bad-state : (past : Word) (r b : ℕ) → bad w hit final past r b ≡ bad w hit final (first w (state w past)) r b
+  bad-state past r b =
+      ap₂ (λ (x y : Bool). (x && final) || y) (state-matches w past (length w) (omega arith))
+      (anyTo-cong (length w) (λ l h. ap (λ (x : Bool). x && hit l b r) (state-matches w past l (omega arith))))
+
+  done-state : (past : Word) → done past ≡ doneAt (state w past)
+  done-state past = ap not (anyTo-cong (length w) (λ l h. ap (λ (x : Bool). x && caught w hit final (suc l) (drop (suc l) w) t) (state-matches w past (suc l) h)))
+
+  -- going through y with all threads at once is accepting y from a state
+  run-accepts : (past y : Word) → not (run w hit final past y t) ≡ accepts fineAt (next w) doneAt (state w past) y
+  run-accepts past [] = done-state past
+  run-accepts past (b ∷ y) =
+      not-or (bad w hit final past (suc (length y + length t)) b) (run w hit final (b ∷ past) y t)
+      ∙ ap₂ (λ (x y : Bool). x && y) (ap not (bad-state past (suc (length y + length t)) b))
+      (run-accepts (b ∷ past) y ∙ ap (λ (i : ℕ). accepts fineAt (next w) doneAt i y) (state-step w b past))
+
+  -- no thread that begins in y is caught exactly if y is accepted from state 0
+  pub accepts-threads : (y : Word) → not (newCaught w hit final y t) ≡ accepts fineAt (next w) doneAt zero y
+  accepts-threads y =
+      ap not (threads-new w hit final y t) ∙ run-accepts [] y ∙ ap (λ (i : ℕ). accepts fineAt (next w) doneAt i y) (state-first w zero (omega arith))
+
+-- ---- antemers and postmers
+
+module _ (ρ : Ranking) (w : Word) where
+  -- antemers: no m-mer that begins in y, followed by w, comes out below w or equal to it
+  abbrev pub antemerOk : ℕ → ℕ → ℕ → Bool
+  antemerOk = fineAt w (belowHit ρ w) true w
+
+  abbrev pub antemerEnd : ℕ → Bool
+  antemerEnd = doneAt w (belowHit ρ w) true w
+
+  -- postmers: no m-mer comes out below w
+  abbrev pub postmerOk : ℕ → ℕ → ℕ → Bool
+  postmerOk = fineAt w (belowHit ρ w) false []
+
+  abbrev pub postmerEnd : ℕ → Bool
+  postmerEnd = doneAt w (belowHit ρ w) false []
+
+  -- the ways to complete state i by r letters
+  abbrev pub antemerWays : ℕ → ℕ → ℕ
+  antemerWays = ways antemerOk (next w) antemerEnd
+
+  abbrev pub postmerWays : ℕ → ℕ → ℕ
+  postmerWays = ways postmerOk (next w) postmerEnd
+
+  -- whether w itself is allowed from the start, with a letters to follow
+  abbrev pub wordAllowed : ℕ → Bool
+  wordAllowed a = through postmerOk (next w) postmerEnd zero w a
+
+  -- the words of a shelf: beside the state, whether w was met before
+  abbrev pub shelfOk : Bool × ℕ → ℕ → ℕ → Bool
+  shelfOk s = postmerOk (s .1)
+
+  abbrev pub shelfStep : Bool × ℕ → ℕ → Bool × ℕ
+  shelfStep s b = (s .0 || eqb (s .1) (length w), next w (s .1) b)
+
+  abbrev pub shelfEnd : Bool × ℕ → Bool
+  shelfEnd s = s .0 || eqb (s .1) (length w)
+
+  abbrev pub shelfWays : Bool × ℕ → ℕ → ℕ
+  shelfWays = ways shelfOk shelfStep shelfEnd
+
+module _ (ρ : Ranking) (one : OneToOne ρ) (w : Word) (hw : Letters w) where
+  pub antemer-accepted : (y : Word) → Letters y → antemer (ranked ρ) w y ≡ accepts (antemerOk ρ w) (next w) (antemerEnd ρ w) zero y
+  antemer-accepted y h = antemer-threads ρ one w hw y h ∙ accepts-threads w (belowHit ρ w) true w y
+
+  pub postmer-accepted : (z : Word) → 0 < length w → Letters z → postmer (ranked ρ) w z ≡ accepts (postmerOk ρ w) (next w) (postmerEnd ρ w) zero z
+  postmer-accepted z m h = postmer-threads ρ one w hw z m h ∙ accepts-threads w (belowHit ρ w) false [] z
+
+  -- the antemers are counted by the table
+  pub antemers-table : (a : ℕ) → antemers (ranked ρ) w a ≡ antemerWays ρ w zero a
+  antemers-table a =
+      count-cong (antemer (ranked ρ) w) (accepts (antemerOk ρ w) (next w) (antemerEnd ρ w) zero) a (λ y h. antemer-accepted y (h .1)) ∙ sym (ways-count (antemerOk ρ w) (next w) (antemerEnd ρ w) zero a)
+
+  begins-postmer : 0 < length w → (z : Word) → Letters z
+      → (begins w z && postmer (ranked ρ) w z)
+      ≡ (begins w z && (wordAllowed ρ w (length (drop (length w) z)) && accepts (postmerOk ρ w) (next w) (postmerEnd ρ w) (length w) (drop (length w) z)))
+  begins-postmer m z h = and-cong (begins w z) _ _ λ e.
+      postmer-accepted z m h
+      ∙ ap (accepts (postmerOk ρ w) (next w) (postmerEnd ρ w) zero) (sym (take-append-drop (length w) z) ∙ ap (λ (u : Word). u ++ drop (length w) z) (same-eq (take (length w) z) w e))
+      ∙ accepts-append (postmerOk ρ w) (next w) (postmerEnd ρ w) zero w (drop (length w) z)
+      ∙ ap (λ (i : ℕ). wordAllowed ρ w (length (drop (length w) z)) && accepts (postmerOk ρ w) (next w) (postmerEnd ρ w) i (drop (length w) z)) to-m
+    where
+      to-m : after (postmerOk ρ w) (next w) (postmerEnd ρ w) zero w ≡ length w
+      to-m =
+          ap (after (postmerOk ρ w) (next w) (postmerEnd ρ w) zero) (sym (take-length w))
+          ∙ after-first w (postmerOk ρ w) (postmerEnd ρ w) zero (length w) (omega arith) ∙ zero-add (length w)
+
+  -- the postmers that begin with w are counted by the table from state m, where w itself is allowed
+  pub postmers-table : 0 < length w → (a : ℕ) → postmers (ranked ρ) w a ≡ cond (wordAllowed ρ w a) (postmerWays ρ w (length w) a) 0
+  postmers-table m a =
+      count-cong (λ z. begins w z && postmer (ranked ρ) w z)
+      (λ z. begins w z && rest (drop (length w) z)) (length w + a) (λ z h. begins-postmer m z (h .1))
+      ∙ count-first w rest a hw
+      ∙ count-cong rest (λ y. wordAllowed ρ w a && accepts (postmerOk ρ w) (next w) (postmerEnd ρ w) (length w) y) a
+      (λ y h. ap (λ (n : ℕ). wordAllowed ρ w n && accepts (postmerOk ρ w) (next w) (postmerEnd ρ w) (length w) y) (h .0))
+      ∙ count-fixed (wordAllowed ρ w a) (accepts (postmerOk ρ w) (next w) (postmerEnd ρ w) (length w)) a
+      ∙ ap (λ (n : ℕ). cond (wordAllowed ρ w a) n 0) (sym (ways-count (postmerOk ρ w) (next w) (postmerEnd ρ w) (length w) a))
+    where
+      rest : Word → Bool
+      rest y = wordAllowed ρ w (length y) && accepts (postmerOk ρ w) (next w) (postmerEnd ρ w) (length w) y
+
+-- ---- the words of a shelf
+
+-- where no letter is left, only a thread at its end is caught
+old-none : (w : Word) (hit : ℕ → ℕ → ℕ → Bool) (final : Bool) (past : Word) → 0 < length w → oldCaught w hit final past [] ≡ (matches w (length w) past && final)
+old-none w hit final past h = go (length w) refl h
+  where
+    at : ℕ → Bool
+    at l = matches w (suc l) past && caught w hit final (suc l) (drop (suc l) w) []
+
+    go : (n : ℕ) → length w ≡ n → 0 < n → anyTo n at ≡ (matches w n past && final)
+    go zero e k = absurd (not-suc-le-zero k)
+    go (suc n) e k =
+        anyTo-last n at
+        ∙ ap₂ (λ (x y : Bool). x || y)
+        (anyTo-cong n (λ l j. ap (λ (u : Word). matches w (suc l) past && caught w hit final (suc l) u []) (drop-cons w (suc l) 0 (omega arith)) ∙ and-false (matches w (suc l) past)) ∙ anyTo-never n)
+        (ap (λ (u : Word). matches w (suc n) past && caught w hit final (suc n) u []) (ap (λ (i : ℕ). drop i w) (sym e) ∙ drop-length w))
+
+-- state m is a match with the whole of w
+pub state-full : (w past : Word) → matches w (length w) past ≡ eqb (state w past) (length w)
+state-full w past =
+    test-ext (matches w (length w) past) (eqb (state w past) (length w))
+    (λ e. eq-eqb (state w past) (length w) (omega (arith, longest-max w (length w) past (length w) (omega arith) e, longest-le w (length w) past)))
+    (λ e. ap (λ (i : ℕ). matches w i past) (sym (eqb-true (state w past) (length w) e)) ∙ longest-matches w (length w) past)
+
+-- no letter is asked for but those of w
+abbrev none : ℕ → ℕ → ℕ → Bool
+none l b r = false
+
+bad-none : (w past : Word) (r b : ℕ) → bad w none true past r b ≡ matches w (length w) past
+bad-none w past r b =
+    ap₂ (λ (x y : Bool). x || y) (and-true (matches w (length w) past))
+    (anyTo-cong (length w) (λ l h. and-false (matches w l past)) ∙ anyTo-never (length w))
+    ∙ or-false (matches w (length w) past)
+
+module _ (ρ : Ranking) (w : Word) (m : 0 < length w) where
+  shelf-run : (h : Bool) (past y : Word)
+      → accepts (shelfOk ρ w) (shelfStep ρ w) (shelfEnd ρ w) (h, state w past) y
+      ≡ (accepts (postmerOk ρ w) (next w) (postmerEnd ρ w) (state w past) y && (h || run w none true past y []))
+  shelf-run h past [] =
+      sym (ap₂ (λ (x y : Bool). x && (h || y))
+      (ap not (old-none w (belowHit ρ w) false (first w (state w past)) m ∙ and-false (matches w (length w) (first w (state w past)))))
+      (old-none w none true past m ∙ and-true (matches w (length w) past) ∙ state-full w past))
+  shelf-run h past (b ∷ y) =
+      ap (λ (t : Bool). postmerOk ρ w (state w past) (length y) b && t)
+      (ap₂ (λ (g : Bool) (i : ℕ). accepts (shelfOk ρ w) (shelfStep ρ w) (shelfEnd ρ w) (h || g, i) y) (sym (state-full w past)) (sym (state-step w b past))
+      ∙ shelf-run (h || matches w (length w) past) (b ∷ past) y)
+      ∙ sym (and-assoc (postmerOk ρ w (state w past) (length y) b) (accepts (postmerOk ρ w) (next w) (postmerEnd ρ w) (state w (b ∷ past)) y)
+      (h || matches w (length w) past || run w none true (b ∷ past) y []))
+      ∙ ap₂ (λ (i : ℕ) (t : Bool). postmerOk ρ w (state w past) (length y) b && accepts (postmerOk ρ w) (next w) (postmerEnd ρ w) i y && t)
+      (state-step w b past)
+      (or-assoc h (matches w (length w) past) (run w none true (b ∷ past) y [])
+      ∙ ap (λ (t : Bool). h || (t || run w none true (b ∷ past) y [])) (sym (bad-none w past (suc (length y + 0)) b)))
+
+module _ (ρ : Ranking) (one : OneToOne ρ) (w : Word) (hw : Letters w) (m : 0 < length w) where
+  -- a word is on the shelf exactly if it is accepted
+  pub shelf-accepted : (x : Word) → Letters x → same (vigemin (ranked ρ) (length w) x) w ≡ accepts (shelfOk ρ w) (shelfStep ρ w) (shelfEnd ρ w) (false, zero) x
+  shelf-accepted x h =
+      vigemin-is (ranked ρ) (windows (length w) x) w m
+      (λ u k e. let d = windows-mer (length w) x h k in value-one ρ one u w (d .1) hw (d .0) e)
+      ∙ ap₂ (λ (s t : Bool). s && t) (postmer-accepted ρ one w hw x m h) (holds-threads w x m ∙ threads-new w none true x [])
+      ∙ ap (λ (i : ℕ). accepts (postmerOk ρ w) (next w) (postmerEnd ρ w) i x && run w none true [] x []) (sym start)
+      ∙ sym (shelf-run ρ w m false [] x)
+      ∙ ap (λ (i : ℕ). accepts (shelfOk ρ w) (shelfStep ρ w) (shelfEnd ρ w) (false, i) x) start
+    where
+      start : state w [] ≡ zero
+      start = state-first w zero (omega arith)
+
+  -- the shelf is what the table walks through
+  pub shelf-table : (k : ℕ) → shelf (ranked ρ) k w ≡ filter (accepts (shelfOk ρ w) (shelfStep ρ w) (shelfEnd ρ w) (false, zero)) (words k)
+  shelf-table k = filter-cong _ _ k (λ x h. shelf-accepted x (h .1))

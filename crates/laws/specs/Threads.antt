@@ -1,0 +1,129 @@
+-- Reading a word letter by letter beside w. A thread is an m-mer of which some letters are read and tied with the first ones of w.
+-- It is caught by a letter that hits (at that place, with so many letters left), or at its end if that is asked. One law says that
+-- going through all threads at once, letter by letter, catches what each thread by itself is caught by: postmers, antemers and
+-- the words that hold w are three cases of it.
+-- Assumes nothing.
+use Prim.Native.Nat.{ℕ, zero, suc, _+_, _≤_, _<_}
+use mathlib.Core.Bool.{Bool, true, false, not, _&&_, _||_, or-false, or-assoc}
+use mathlib.Core.List.{[], _∷_, _++_}
+use mathlib.Core.Path.{_≡_, refl, sym, ap, ap₂, _∙_}
+use native.Mathlib.Omega.{arith}
+use native.Mathlib.Nat.{le-of-suc-le-suc}
+use lib.Dec.{eqb}
+use lib.ListN.{length, getD, drop, length-append}
+use lib.Seq.{drop-cons, drop-length}
+use Rattle.definitions.specs.Words.{Word}
+use Rattle.laws.specs.States.{matches, first, state, state-matches}
+
+-- ---- some place below n
+
+-- whether a test holds of some number below n
+abbrev pub anyTo : ℕ → (ℕ → Bool) → Bool
+anyTo zero p = false
+anyTo (suc n) p = p zero || anyTo n (λ l. p (suc l))
+
+pub anyTo-cong : (n : ℕ) {p q : ℕ → Bool} → ((l : ℕ) → l < n → p l ≡ q l) → anyTo n p ≡ anyTo n q
+anyTo-cong zero h = refl
+anyTo-cong (suc n) h = ap₂ (λ (s t : Bool). s || t) (h zero (omega arith)) (anyTo-cong n (λ l k. h (suc l) (omega arith)))
+
+pub anyTo-never : (n : ℕ) → anyTo n (λ l. false) ≡ false
+anyTo-never zero = refl
+anyTo-never (suc n) = anyTo-never n
+
+pub anyTo-last : (n : ℕ) (p : ℕ → Bool) → anyTo (suc n) p ≡ (anyTo n p || p n)
+anyTo-last zero p = or-false (p zero)
+anyTo-last (suc n) p = ap (λ (t : Bool). p zero || t) (anyTo-last n (λ l. p (suc l))) ∙ sym (or-assoc (p zero) (anyTo n (λ l. p (suc l))) (p (suc n)))
+
+pub anyTo-or : (n : ℕ) (p q : ℕ → Bool) → anyTo n (λ l. p l || q l) ≡ (anyTo n p || anyTo n q)
+anyTo-or zero p q = refl
+anyTo-or (suc n) p q = ap (λ (t : Bool). p zero || q zero || t) (anyTo-or n (λ l. p (suc l)) (λ l. q (suc l))) ∙ exchange (p zero) (q zero) (anyTo n (λ l. p (suc l))) (anyTo n (λ l. q (suc l)))
+  where
+    exchange : (a b c d : Bool) → (a || b || (c || d)) ≡ (a || c || (b || d))
+    exchange true b c d = refl
+    exchange false true true d = refl
+    exchange false true false d = refl
+    exchange false false c d = refl
+
+-- ---- threads
+
+module _ (w : Word) (hit : ℕ → ℕ → ℕ → Bool) (final : Bool) where
+  -- whether a thread is caught: l letters are tied, u is what of w is left to read, z the letters to come
+  abbrev pub caught : ℕ → Word → Word → Bool
+  caught l [] z = final
+  caught l (a ∷ u) [] = false
+  caught l (a ∷ u) (b ∷ z) = hit l b (suc (length z)) || (eqb b a && caught (suc l) u z)
+
+  -- whether a thread that began in what was read is caught in the letters to come
+  abbrev pub oldCaught : Word → Word → Bool
+  oldCaught past z = anyTo (length w) (λ l. matches w (suc l) past && caught (suc l) (drop (suc l) w) z)
+
+  -- whether a thread that begins in y is caught in y followed by t
+  abbrev pub newCaught : Word → Word → Bool
+  newCaught [] t = false
+  newCaught (b ∷ y) t = caught zero w (b ∷ (y ++ t)) || newCaught y t
+
+  -- whether a letter, with so many letters left from it on, hits a thread or finds one at its end
+  abbrev pub bad : Word → ℕ → ℕ → Bool
+  bad past r b = (matches w (length w) past && final) || anyTo (length w) (λ l. matches w l past && hit l b r)
+
+  -- going through y, followed by t, with all threads at once
+  abbrev pub run : Word → Word → Word → Bool
+  run past [] t = oldCaught past t
+  run past (b ∷ y) t = bad past (suc (length y + length t)) b || run (b ∷ past) y t
+
+  tied : (past : Word) (b : ℕ) (z : Word) → ℕ → Bool
+  tied past b z l = matches w l past && caught l (drop l w) (b ∷ z)
+
+  tied-step : (m h e c : Bool) → (m && (h || (e && c))) ≡ ((m && h) || ((e && m) && c))
+  tied-step true h true c = refl
+  tied-step true h false c = refl
+  tied-step false h true c = refl
+  tied-step false h false c = refl
+
+  -- one letter: the threads tied before it are hit by it, or are tied after it
+  tied-letter : (past : Word) (b : ℕ) (z : Word)
+      → (caught zero w (b ∷ z) || oldCaught past (b ∷ z)) ≡ (bad past (suc (length z)) b || oldCaught (b ∷ past) z)
+  unfolding tied
+  tied-letter past b z =
+      anyTo-last (length w) (tied past b z)
+      ∙ ap₂ (λ (s t : Bool). s || t) (anyTo-cong (length w) each ∙ anyTo-or (length w) (λ l. matches w l past && hit l b (suc (length z)))
+      (λ l. matches w (suc l) (b ∷ past) && caught (suc l) (drop (suc l) w) z)) at-end
+      ∙ turn (anyTo (length w) (λ l. matches w l past && hit l b (suc (length z)))) (oldCaught (b ∷ past) z) (matches w (length w) past && final)
+    where
+      each : (l : ℕ) → l < length w → tied past b z l
+          ≡ ((matches w l past && hit l b (suc (length z))) || (matches w (suc l) (b ∷ past) && caught (suc l) (drop (suc l) w) z))
+      each l h =
+          ap (λ (u : Word). matches w l past && caught l u (b ∷ z)) (drop-cons w l 0 h)
+          ∙ tied-step (matches w l past) (hit l b (suc (length z))) (eqb b (getD w l 0)) (caught (suc l) (drop (suc l) w) z)
+
+      at-end : tied past b z (length w) ≡ (matches w (length w) past && final)
+      at-end = ap (λ (u : Word). matches w (length w) past && caught (length w) u (b ∷ z)) (drop-length w)
+
+      turn : (h o f : Bool) → (h || o || f) ≡ ((f || h) || o)
+      turn true true true = refl
+      turn true true false = refl
+      turn true false true = refl
+      turn true false false = refl
+      turn false true true = refl
+      turn false true false = refl
+      turn false false true = refl
+      turn false false false = refl
+
+  regroup : (o c n : Bool) → (o || (c || n)) ≡ ((c || o) || n)
+  regroup true true n = refl
+  regroup true false n = refl
+  regroup false true n = refl
+  regroup false false n = refl
+
+  -- what each thread by itself is caught by, all threads at once catch
+  pub threads : (past y t : Word) → (oldCaught past (y ++ t) || newCaught y t) ≡ run past y t
+  threads past [] t = or-false (oldCaught past t)
+  threads past (b ∷ y) t =
+      regroup (oldCaught past (b ∷ (y ++ t))) (caught zero w (b ∷ (y ++ t))) (newCaught y t)
+      ∙ ap (λ (s : Bool). s || newCaught y t) (tied-letter past b (y ++ t))
+      ∙ or-assoc (bad past (suc (length (y ++ t))) b) (oldCaught (b ∷ past) (y ++ t)) (newCaught y t)
+      ∙ ap₂ (λ (n : ℕ) (s : Bool). bad past (suc n) b || s) (length-append y t) (threads (b ∷ past) y t)
+
+  -- nothing is tied before the first letter
+  pub threads-new : (y t : Word) → newCaught y t ≡ run [] y t
+  threads-new y t = ap (λ (s : Bool). s || newCaught y t) (sym (anyTo-never (length w))) ∙ threads [] y t
