@@ -11,4 +11,6 @@ pub mod States
 pub mod Threads
 pub mod Acceptors
 pub mod Tables
+pub mod Prefixes
 pub mod Rules
+pub mod Print

@@ -8,8 +8,9 @@ use lib.Dec.{ltb, leb, eqb}
 use lib.ListN.{length, getD, take, drop}
 use Rattle.definitions.specs.Words.{Word}
 use Rattle.definitions.specs.Vigemins.{value}
-use Rattle.laws.specs.Counting.{count}
 use Rattle.laws.specs.Orders.{Ranking, ranked}
+use Rattle.laws.specs.Threads.{anyTo}
+use Rattle.laws.specs.Prefixes.{goesOn}
 
 -- how one number stands to another
 pub data Sign : Type 0 where
@@ -28,19 +29,10 @@ isEqual less = false
 isEqual equal = true
 isEqual greater = false
 
--- the length of the longest prefix that a word shares with w
-abbrev pub shared : Word → Word → ℕ
-shared [] y = zero
-shared (a ∷ w) [] = zero
-shared (a ∷ w) (b ∷ y) = cond (eqb b a) (suc (shared w y)) zero
-
--- of the words of n letters that pass a test, those that share exactly i letters with w
-abbrev pub sharing : Word → (Word → Bool) → ℕ → ℕ → ℕ
-sharing w p i n = count (λ y. p y && eqb (shared w y) i) n
-
--- of the words of n letters that pass a test, those that share at least i letters with w
-abbrev pub sharingFrom : Word → (Word → Bool) → ℕ → ℕ → ℕ
-sharingFrom w p i n = count (λ y. p y && leb i (shared w y)) n
+-- the least number below n of which a test holds; n where it holds of none
+abbrev pub firstTo : ℕ → (ℕ → Bool) → ℕ
+firstTo zero p = zero
+firstTo (suc n) p = cond (p zero) zero (suc (firstTo n (λ q. p (suc q))))
 
 module _ (ρ : Ranking) (w : Word) where
   -- the letters aj..ai of w
@@ -60,4 +52,22 @@ module _ (ρ : Ranking) (w : Word) where
   -- whether a letter is ai
   abbrev pub isLetter : ℕ → ℕ → Bool
   isLetter zero b = false
-  isLetter (suc l) b = ltb l (length w) && eqb b (getD w l 0)
+  isLetter (suc l) b = goesOn w l b
+
+  module _ (c n : ℕ) where
+    -- whether the m-mer that starts at j counts: it exists in a word of n letters that c letters follow
+    abbrev pub counts : ℕ → Bool
+    counts j = leb (length w + j) (suc (n + c))
+
+    -- whether i shared letters ban a word: some R(i',j) with 2 ≤ j ≤ i' ≤ i is below
+    abbrev pub banned : ℕ → Bool
+    banned i = anyTo i (λ i′. anyTo i′ (λ q. counts (2 + q) && isLess (R (suc i′) (2 + q))))
+
+    -- whether the letter b may follow i shared letters: it lies in Σ(i+1), and for every j from 2 to i+1 with R(i,j) equal it lies in
+    -- Σ(i−j+2) or is a(i−j+2). At j = i+1 no letters are compared, which counts as equal, and that letter is a1
+    abbrev pub restrained : ℕ → ℕ → Bool
+    restrained i b = Σ (suc i) b && not (anyTo i (λ q. counts (2 + q) && isEqual (R i (2 + q)) && not (Σ (i - q) b || isLetter (i - q) b)))
+
+    -- T: the least j from 2 to i+1 with R(i,j) equal and b = a(i−j+2); i+2 where there is none
+    abbrev pub T : ℕ → ℕ → ℕ
+    T i b = 2 + firstTo i (λ q. counts (2 + q) && isEqual (R i (2 + q)) && isLetter (i - q) b)

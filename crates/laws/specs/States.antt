@@ -135,3 +135,27 @@ module _ (w : Word) where
       go : (t : Bool) → leb (state (first i)) i ≡ t → i ≤ state (first i) → state (first i) ≡ i
       go true q low = omega (arith, leb-true (state (first i)) i q)
       go false q low = absurd (contrary (matches (state (first i)) (first i)) (longest-matches (length w) (first i)) (matches-short i (state (first i)) (leb-false (state (first i)) i q)))
+
+  -- the state is at most one more than before
+  pub next-le : (i b : ℕ) → next i b ≤ suc i
+  next-le i b = go (leb (next i b) (suc i)) refl
+    where
+      long : (n : ℕ) → suc i < n → matches n (b ∷ first i) ≡ false
+      long zero h = absurd (not-suc-le-zero h)
+      long (suc l) h = and-false (eqb b (getD w l 0)) (matches l (first i)) (matches-short i l (le-of-suc-le-suc h))
+
+      go : (t : Bool) → leb (next i b) (suc i) ≡ t → next i b ≤ suc i
+      go true q = leb-true (next i b) (suc i) q
+      go false q =
+          absurd (contrary (matches (next i b) (b ∷ first i)) (longest-matches (length w) (b ∷ first i)) (long (next i b) (leb-false (next i b) (suc i) q)))
+
+  -- a match that no longer one exceeds is the longest
+  pub longest-is : (n : ℕ) (past : Word) (s : ℕ) → s ≤ n → matches s past ≡ true → ((l : ℕ) → s < l → l ≤ n → matches l past ≡ false) → longest n past ≡ s
+  longest-is n past s h e high =
+      let low : s ≤ longest n past = longest-max n past s h e in
+      go (leb (longest n past) s) refl low
+    where
+      go : (t : Bool) → leb (longest n past) s ≡ t → s ≤ longest n past → longest n past ≡ s
+      go true q low = omega (arith, leb-true (longest n past) s q)
+      go false q low =
+          absurd (contrary (matches (longest n past) past) (longest-matches n past) (high (longest n past) (leb-false (longest n past) s q) (longest-le n past)))

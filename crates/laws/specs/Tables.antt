@@ -27,6 +27,11 @@ use Rattle.laws.specs.Acceptors.{belowHit, not-or, postmer-threads, ante
 
 -- ---- beginnings
 
+-- a fixed test beside another
+pub count-fixed : (t : Bool) (p : Word → Bool) (n : ℕ) → count (λ x. t && p x) n ≡ cond t (count p n) 0
+count-fixed true p n = refl
+count-fixed false p n = count-none n
+
 module _ {S : Type 0} (ok : S → ℕ → ℕ → Bool) (step : S → ℕ → S) (end : S → Bool) where
   -- whether the letters of u are allowed one after the other, with n letters to follow
   abbrev pub through : S → Word → ℕ → Bool
@@ -45,6 +50,36 @@ module _ {S : Type 0} (ok : S → ℕ → ℕ → Bool) (step : S → ℕ → S)
       ap₂ (λ (n : ℕ) (t : Bool). ok s n b && t) (length-append u z) (accepts-append (step s b) u z)
       ∙ sym (and-assoc (ok s (length u + length z) b) (through (step s b) u (length z)) (accepts ok step end (after (step s b) u) z))
 
+  -- the accepted words that begin with u and go on by a test: those that follow the state after u, where u itself is allowed
+  pub count-begun-by : (d : Word → Bool) (s : S) (u : Word) (n : ℕ) → Letters u
+      → count (λ z. same (take (length u) z) u && (accepts ok step end s z && d (drop (length u) z))) (length u + n)
+      ≡ cond (through s u n) (count (λ v. accepts ok step end (after s u) v && d v) n) 0
+  count-begun-by d s u n h =
+      count-cong _ (λ z. same (take (length u) z) u && rest (drop (length u) z)) (length u + n) (λ z k. and-cong (same (take (length u) z) u) _ _ (begun z))
+      ∙ count-first u rest n h
+      ∙ count-cong rest (λ v. through s u n && (accepts ok step end (after s u) v && d v)) n
+      (λ v k. and-assoc (through s u (length v)) (accepts ok step end (after s u) v) (d v)
+      ∙ ap (λ (i : ℕ). through s u i && (accepts ok step end (after s u) v && d v)) (k .0))
+      ∙ count-fixed (through s u n) (λ v. accepts ok step end (after s u) v && d v) n
+    where
+      rest : Word → Bool
+      rest v = through s u (length v) && accepts ok step end (after s u) v && d v
+
+      begun : (z : Word) → same (take (length u) z) u ≡ true → (accepts ok step end s z && d (drop (length u) z)) ≡ rest (drop (length u) z)
+      begun z e =
+          ap (λ (t : Bool). t && d (drop (length u) z))
+          (ap (accepts ok step end s) (sym (take-append-drop (length u) z) ∙ ap (λ (v : Word). v ++ drop (length u) z) (same-eq (take (length u) z) u e))
+          ∙ accepts-append s u (drop (length u) z))
+
+  -- the accepted words that begin with u are counted by the table from the state after u, where u itself is allowed
+  pub count-begun : (s : S) (u : Word) (n : ℕ) → Letters u
+      → count (λ z. same (take (length u) z) u && accepts ok step end s z) (length u + n) ≡ cond (through s u n) (ways ok step end (after s u) n) 0
+  count-begun s u n h =
+      count-cong _ _ (length u + n) (λ z k. ap (λ (t : Bool). same (take (length u) z) u && t) (sym (and-true (accepts ok step end s z))))
+      ∙ count-begun-by (λ v. true) s u n h
+      ∙ ap (λ (c : ℕ). cond (through s u n) c 0)
+      (count-cong _ (accepts ok step end (after s u)) n (λ v k. and-true (accepts ok step end (after s u) v)) ∙ sym (ways-count ok step end (after s u) n))
+
 -- w's own letter leads from a state to the next one
 pub next-first : (w : Word) (i : ℕ) → i < length w → next w i (getD w i 0) ≡ suc i
 next-first w i h = state-first w (suc i) h
@@ -58,10 +93,9 @@ after-first w ok end i (suc j) h =
     ∙ after-first w ok end (suc i) j (omega arith)
     ∙ (omega arith)
 
--- a fixed test beside another
-pub count-fixed : (t : Bool) (p : Word → Bool) (n : ℕ) → count (λ x. t && p x) n ≡ cond t (count p n) 0
-count-fixed true p n = refl
-count-fixed false p n = count-none n
+-- the first i letters of w lead from state 0 to state i
+pub after-prefix : (w : Word) (ok : ℕ → ℕ → ℕ → Bool) (end : ℕ → Bool) (i : ℕ) → i ≤ length w → after ok (next w) end zero (take i w) ≡ i
+after-prefix w ok end i h = after-first w ok end zero i (omega arith) ∙ zero-add i
 
 -- ---- threads by states
 
@@ -155,33 +189,13 @@ module _ (ρ : Ranking) (one : OneToOne ρ) (w : Word) (hw : Letters w) where
   antemers-table a =
       count-cong (antemer (ranked ρ) w) (accepts (antemerOk ρ w) (next w) (antemerEnd ρ w) zero) a (λ y h. antemer-accepted y (h .1)) ∙ sym (ways-count (antemerOk ρ w) (next w) (antemerEnd ρ w) zero a)
 
-  begins-postmer : 0 < length w → (z : Word) → Letters z
-      → (begins w z && postmer (ranked ρ) w z)
-      ≡ (begins w z && (wordAllowed ρ w (length (drop (length w) z)) && accepts (postmerOk ρ w) (next w) (postmerEnd ρ w) (length w) (drop (length w) z)))
-  begins-postmer m z h = and-cong (begins w z) _ _ λ e.
-      postmer-accepted z m h
-      ∙ ap (accepts (postmerOk ρ w) (next w) (postmerEnd ρ w) zero) (sym (take-append-drop (length w) z) ∙ ap (λ (u : Word). u ++ drop (length w) z) (same-eq (take (length w) z) w e))
-      ∙ accepts-append (postmerOk ρ w) (next w) (postmerEnd ρ w) zero w (drop (length w) z)
-      ∙ ap (λ (i : ℕ). wordAllowed ρ w (length (drop (length w) z)) && accepts (postmerOk ρ w) (next w) (postmerEnd ρ w) i (drop (length w) z)) to-m
-    where
-      to-m : after (postmerOk ρ w) (next w) (postmerEnd ρ w) zero w ≡ length w
-      to-m =
-          ap (after (postmerOk ρ w) (next w) (postmerEnd ρ w) zero) (sym (take-length w))
-          ∙ after-first w (postmerOk ρ w) (postmerEnd ρ w) zero (length w) (omega arith) ∙ zero-add (length w)
-
   -- the postmers that begin with w are counted by the table from state m, where w itself is allowed
   pub postmers-table : 0 < length w → (a : ℕ) → postmers (ranked ρ) w a ≡ cond (wordAllowed ρ w a) (postmerWays ρ w (length w) a) 0
   postmers-table m a =
-      count-cong (λ z. begins w z && postmer (ranked ρ) w z)
-      (λ z. begins w z && rest (drop (length w) z)) (length w + a) (λ z h. begins-postmer m z (h .1))
-      ∙ count-first w rest a hw
-      ∙ count-cong rest (λ y. wordAllowed ρ w a && accepts (postmerOk ρ w) (next w) (postmerEnd ρ w) (length w) y) a
-      (λ y h. ap (λ (n : ℕ). wordAllowed ρ w n && accepts (postmerOk ρ w) (next w) (postmerEnd ρ w) (length w) y) (h .0))
-      ∙ count-fixed (wordAllowed ρ w a) (accepts (postmerOk ρ w) (next w) (postmerEnd ρ w) (length w)) a
-      ∙ ap (λ (n : ℕ). cond (wordAllowed ρ w a) n 0) (sym (ways-count (postmerOk ρ w) (next w) (postmerEnd ρ w) (length w) a))
-    where
-      rest : Word → Bool
-      rest y = wordAllowed ρ w (length y) && accepts (postmerOk ρ w) (next w) (postmerEnd ρ w) (length w) y
+      count-cong (λ z. begins w z && postmer (ranked ρ) w z) _ (length w + a) (λ z h. ap (λ (t : Bool). begins w z && t) (postmer-accepted z m (h .1)))
+      ∙ count-begun (postmerOk ρ w) (next w) (postmerEnd ρ w) zero w a hw
+      ∙ ap (λ (i : ℕ). cond (wordAllowed ρ w a) (postmerWays ρ w i a) 0)
+      (ap (after (postmerOk ρ w) (next w) (postmerEnd ρ w) zero) (sym (take-length w)) ∙ after-prefix w (postmerOk ρ w) (postmerEnd ρ w) (length w) (omega arith))
 
 -- ---- the words of a shelf
 
