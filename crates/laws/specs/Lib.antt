@@ -11,6 +11,7 @@ pub mod States
 pub mod Threads
 pub mod Acceptors
 pub mod Tables
+pub mod Split
 pub mod Prefixes
 pub mod Rules
 pub mod Print

@@ -118,7 +118,7 @@ roll-number b a c u h =
     number-append b u (c ∷ []) ∙ rw (digits-mod a (number-lt b u h), pow-suc b 0, pow-zero, one-mul, mul-one, add-zero)
 
 -- two numbers with a high part and a low part below m are compared by their high parts first
-high-less : (m a c r s : ℕ) → r < m → s < m → ltb (a * m + r) (c * m + s) ≡ (ltb a c || (eqb a c && ltb r s))
+pub high-less : (m a c r s : ℕ) → r < m → s < m → ltb (a * m + r) (c * m + s) ≡ (ltb a c || (eqb a c && ltb r s))
 high-less m a c r s hr hs = go (ltb a c) (eqb a c) refl refl
   where
     go : (t e : Bool) → ltb a c ≡ t → eqb a c ≡ e → ltb (a * m + r) (c * m + s) ≡ (t || (e && ltb r s))

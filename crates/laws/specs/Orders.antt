@@ -58,7 +58,7 @@ keyed-at (c ∷ key) (a ∷ v) = ap (λ (y : Word). sum a c ∷ y) (keyed-at key
 pub keyed-ranked : (key : Word) → keyed key ≡ ranked (keyRanking key)
 keyed-ranked key = fun-ext (keyed-at key)
 
-letter-at : (key : Word) (p : ℕ) → Letters key → getD key p zero < 4
+pub letter-at : (key : Word) (p : ℕ) → Letters key → getD key p zero < 4
 letter-at [] p h = omega arith
 letter-at (c ∷ key) zero h = h .0
 letter-at (c ∷ key) (suc p) h = letter-at key p (h .1)

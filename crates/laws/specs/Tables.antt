@@ -1,28 +1,29 @@
 -- The acceptors by states: postmers, antemers and the words of a shelf are accepted letter by letter from a state of w alone, so each
 -- count is a table over (state, letters left), and the words of a shelf are found by walking with the table.
 -- Assumes nothing.
-use Prim.Native.Nat.{ℕ, zero, suc, _+_, _≤_, _<_}
-use mathlib.Core.Bool.{Bool, true, false, cond, not, _&&_, _||_, and-true, and-false, or-false, and-assoc, or-assoc}
-use mathlib.Core.List.{List, [], _∷_, _++_}
-use mathlib.Core.Path.{_≡_, refl, sym, ap, ap₂, _∙_}
+use Prim.Native.Nat.{ℕ, zero, suc, _+_, _-_, _^_, _≤_, _<_}
+use mathlib.Core.Bool.{Bool, true, false, cond, not, _&&_, _||_, and-true, and-false, or-false, and-assoc, and-comm, or-assoc}
+use mathlib.Core.List.{List, [], _∷_, _++_, map}
+use mathlib.Core.Logic.{⊎-elim}
+use mathlib.Core.Path.{_≡_, refl, sym, ap, ap₂, fun-ext, _∙_}
 use native.Mathlib.Nat.{zero-add, add-zero, not-suc-le-zero}
 use native.Mathlib.Omega.{arith}
-use borrow.Author.Tests.{eqb-true, eq-eqb}
-use lib.Dec.{eqb}
-use lib.ListN.{length, getD, take, drop, length-append, take-append-drop}
-use lib.Seq.{take-length, drop-length, drop-cons}
-use Rattle.definitions.specs.Lists.{filter}
-use Rattle.definitions.specs.Words.{Word, Letters, Mer, words, same}
+use borrow.Author.Tests.{leb-true, leb-false, lt-leb, eqb-true, eq-eqb}
+use lib.Dec.{ltb, leb, eqb}
+use lib.ListN.{length, getD, take, drop, length-append, length-drop, take-append-drop}
+use lib.Seq.{take-suc, take-length, drop-length, drop-cons}
+use Rattle.definitions.specs.Lists.{filter, total}
+use Rattle.definitions.specs.Words.{Word, Letters, Mer, letters, words, same}
 use Rattle.definitions.specs.Vigemins.{windows, vigemin}
 use Rattle.definitions.specs.Shelves.{shelf, antemer, postmer, begins, antemers, postmers}
-use Rattle.laws.specs.Tests.{and-cong, test-ext, same-eq}
+use Rattle.laws.specs.Tests.{and-l, and-r, and-i, and-cong, or-l, or-r, or-cases, test-ext, contrary, same-eq}
 use Rattle.laws.specs.Filters.{any}
 use Rattle.laws.specs.Minima.{windows-mer, vigemin-is}
 use Rattle.laws.specs.Counting.{count, filter-cong, count-cong, count-none, count-first}
 use Rattle.laws.specs.Walks.{accepts, ways, ways-count}
 use Rattle.laws.specs.Orders.{Ranking, OneToOne, ranked, value-one}
-use Rattle.laws.specs.States.{matches, first, longest, state, next, longest-matches, longest-max, longest-le, state-matches, state-step, state-first}
-use Rattle.laws.specs.Threads.{anyTo, anyTo-cong, anyTo-last, caught, oldCaught, newCaught, bad, run, threads-new, anyTo-never}
+use Rattle.laws.specs.States.{matches, first, longest, state, next, longest-matches, longest-max, longest-le, matches-first, matches-short, state-matches, state-step, state-first, next-le}
+use Rattle.laws.specs.Threads.{anyTo, anyTo-cong, anyTo-last, anyTo-find, anyTo-there, caught, oldCaught, newCaught, bad, run, threads-new, anyTo-never}
 use Rattle.laws.specs.Acceptors.{belowHit, not-or, postmer-threads, antemer-threads, holds-threads}
 
 -- ---- beginnings
@@ -80,6 +81,13 @@ module _ {S : Type 0} (ok : S → ℕ → ℕ → Bool) (step : S → ℕ → S)
       ∙ ap (λ (c : ℕ). cond (through s u n) c 0)
       (count-cong _ (accepts ok step end (after s u)) n (λ v k. and-true (accepts ok step end (after s u) v)) ∙ sym (ways-count ok step end (after s u) n))
 
+  -- one letter more is allowed from the state after the others
+  pub through-last : (s : S) (u : Word) (b n : ℕ) → through s (u ++ (b ∷ [])) n ≡ (through s u (suc n) && ok (after s u) n b)
+  through-last s [] b n = and-true (ok s (zero + n) b) ∙ ap (λ (i : ℕ). ok s i b) (zero-add n)
+  through-last s (a ∷ u) b n =
+      ap₂ (λ (i : ℕ) (t : Bool). ok s i a && t) (let e : length (u ++ (b ∷ [])) ≡ length u + 1 = length-append u (b ∷ []) in omega arith) (through-last (step s a) u b n)
+      ∙ sym (and-assoc (ok s (length u + suc n) a) (through (step s a) u (suc n)) (ok (after (step s a) u) n b))
+
 -- w's own letter leads from a state to the next one
 pub next-first : (w : Word) (i : ℕ) → i < length w → next w i (getD w i 0) ≡ suc i
 next-first w i h = state-first w (suc i) h
@@ -135,6 +143,101 @@ module _ (w : Word) (hit : ℕ → ℕ → ℕ → Bool) (final : Bool) (t : Wor
   pub accepts-threads : (y : Word) → not (newCaught w hit final y t) ≡ accepts fineAt (next w) doneAt zero y
   accepts-threads y =
       ap not (threads-new w hit final y t) ∙ run-accepts [] y ∙ ap (λ (i : ℕ). accepts fineAt (next w) doneAt i y) (state-first w zero (omega arith))
+
+  -- each letter that was read was fine, with n letters and t to follow
+  abbrev pub allFine : Word → ℕ → Bool
+  allFine [] n = true
+  allFine (b ∷ past) n = fine past n b && allFine past (suc n)
+
+  -- what was fine beside more letters read is fine beside the first ones of w that they end in
+  fine-match : (s : ℕ) (past : Word) (n b : ℕ) → matches w s past ≡ true → fine past n b ≡ true → fine (first w s) n b ≡ true
+  fine-match s past n b e f = go (bad w hit final (first w s) (suc (n + length t)) b) refl
+    where
+      up : (l : ℕ) → matches w l (first w s) ≡ true → matches w l past ≡ true
+      up l k = at (leb l s) refl
+        where
+          at : (d : Bool) → leb l s ≡ d → matches w l past ≡ true
+          at true q = matches-first w s past l e (leb-true l s q) ∙ k
+          at false q = absurd (contrary (matches w l (first w s)) k (matches-short w s l (leb-false l s q)))
+      still : bad w hit final (first w s) (suc (n + length t)) b ≡ true → bad w hit final past (suc (n + length t)) b ≡ true
+      still k =
+          ⊎-elim
+            (λ a. or-l (matches w (length w) past && final) (anyTo (length w) (λ l. matches w l past && hit l b (suc (n + length t))))
+              (and-i (matches w (length w) past) final (up (length w) (and-l (matches w (length w) (first w s)) final a)) (and-r (matches w (length w) (first w s)) final a)))
+            (λ a. let r = anyTo-find (length w) (λ l. matches w l (first w s) && hit l b (suc (n + length t))) a in
+              or-r (matches w (length w) past && final) (anyTo (length w) (λ l. matches w l past && hit l b (suc (n + length t))))
+                (anyTo-there (length w) (λ l. matches w l past && hit l b (suc (n + length t))) (r .0) (r .1)
+                  (and-i (matches w (r .0) past) (hit (r .0) b (suc (n + length t)))
+                    (up (r .0) (and-l (matches w (r .0) (first w s)) (hit (r .0) b (suc (n + length t))) (r .2)))
+                    (and-r (matches w (r .0) (first w s)) (hit (r .0) b (suc (n + length t))) (r .2)))))
+            (or-cases (matches w (length w) (first w s) && final) (anyTo (length w) (λ l. matches w l (first w s) && hit l b (suc (n + length t)))) k)
+      go : (d : Bool) → bad w hit final (first w s) (suc (n + length t)) b ≡ d → not d ≡ true
+      go true k = absurd (contrary (fine past n b) f (ap not (still k)))
+      go false k = refl
+
+  pub allFine-match : (s : ℕ) (past : Word) (n : ℕ) → matches w s past ≡ true → allFine past n ≡ true → allFine (first w s) n ≡ true
+  allFine-match zero past n e f = refl
+  allFine-match (suc s) [] n e f = absurd (contrary false e refl)
+  allFine-match (suc s) (b ∷ past) n e f =
+      let k : matches w s past ≡ true = and-r (eqb b (getD w s 0)) (matches w s past) e in
+      and-i (fine (first w s) n (getD w s 0)) (allFine (first w s) (suc n))
+        (fine-match s past n (getD w s 0) k
+          (ap (fine past n) (sym (eqb-true b (getD w s 0) (and-l (eqb b (getD w s 0)) (matches w s past) e))) ∙ and-l (fine past n b) (allFine past (suc n)) f))
+        (allFine-match s past (suc n) k (and-r (fine past n b) (allFine past (suc n)) f))
+
+  -- the first i letters of w are allowed one after the other exactly if each was fine
+  pub through-fine : (i n : ℕ) → i ≤ length w → through fineAt (next w) doneAt zero (take i w) n ≡ allFine (first w i) n
+  through-fine zero n h = refl
+  through-fine (suc i) n h =
+      ap (λ (u : Word). through fineAt (next w) doneAt zero u n) (take-suc w i 0 h)
+      ∙ through-last fineAt (next w) doneAt zero (take i w) (getD w i 0) n
+      ∙ ap₂ (λ (x : Bool) (s : ℕ). x && fineAt s n (getD w i 0)) (through-fine i (suc n) (omega arith)) (after-prefix w fineAt doneAt i (omega arith))
+      ∙ and-comm (allFine (first w i) (suc n)) (fine (first w i) n (getD w i 0))
+
+-- ---- where no m-mer can exist any more
+
+module _ (ρ : Ranking) (w : Word) (final : Bool) (t : Word) where
+  caught-never : (l : ℕ) (u z : Word) → l + length z < length w → length z < length u → caught w (belowHit ρ w) final l u z ≡ false
+  caught-never l [] z h k = absurd (not-suc-le-zero k)
+  caught-never l (a ∷ u) [] h k = refl
+  caught-never l (a ∷ u) (b ∷ z) h k =
+      ap₂ (λ (x y : Bool). x && ltb (ρ l b) (ρ l (getD w l 0)) || (eqb b a && y)) (lt-leb (length w) (l + suc (length z)) h)
+        (caught-never (suc l) u z (omega arith) (omega arith))
+      ∙ and-false (eqb b a)
+
+  -- a test beside a match fails where the match does, or where the test fails of as many letters as can match
+  matched-none : (s : ℕ) (p : ℕ → Bool) (l : ℕ) → (l ≤ s → p l ≡ false) → (matches w l (first w s) && p l) ≡ false
+  matched-none s p l h = go (leb l s) refl
+    where
+      go : (d : Bool) → leb l s ≡ d → (matches w l (first w s) && p l) ≡ false
+      go true q = ap (λ (x : Bool). matches w l (first w s) && x) (h (leb-true l s q)) ∙ and-false (matches w l (first w s))
+      go false q = ap (λ (x : Bool). x && p l) (matches-short w s l (leb-false l s q))
+
+  fine-free : (s n b : ℕ) → s + suc (n + length t) < length w → fineAt w (belowHit ρ w) final t s n b ≡ true
+  fine-free s n b h =
+      ap₂ (λ (x y : Bool). not (x && final || y)) (matches-short w s (length w) (omega arith))
+        (anyTo-cong (length w)
+            (λ l k. matched-none s (λ i. belowHit ρ w i b (suc (n + length t))) l
+              (λ q. ap (λ (x : Bool). x && ltb (ρ l b) (ρ l (getD w l 0))) (lt-leb (length w) (l + suc (n + length t)) (omega arith))))
+          ∙ anyTo-never (length w))
+
+  done-free : (s : ℕ) → s + length t < length w → doneAt w (belowHit ρ w) final t s ≡ true
+  done-free s h =
+      ap not
+        (anyTo-cong (length w)
+            (λ l k. matched-none s (λ i. caught w (belowHit ρ w) final i (drop i w) t) (suc l)
+              (λ q. caught-never (suc l) (drop (suc l) w) t (omega arith) (let e : length (drop (suc l) w) ≡ length w - suc l = length-drop (suc l) w in omega arith)))
+          ∙ anyTo-never (length w))
+
+  -- where no m-mer can exist any more, all words complete a state: a power of four
+  pub ways-free : (n s : ℕ) → s + n + length t < length w
+      → ways (fineAt w (belowHit ρ w) final t) (next w) (doneAt w (belowHit ρ w) final t) s n ≡ 4 ^ n
+  ways-free zero s h = ap (λ (x : Bool). cond x 1 0) (done-free s (omega arith))
+  ways-free (suc n) s h =
+      ap (λ (g : ℕ → ℕ). total (map g letters))
+        (fun-ext λ b. ap₂ (λ (x : Bool) (c : ℕ). cond x c 0) (fine-free s n b (omega arith))
+          (ways-free n (next w s b) (let k : next w s b ≤ suc s = next-le w s b in omega arith)))
+      ∙ (omega arith)
 
 -- ---- antemers and postmers
 

@@ -8,11 +8,13 @@ use mathlib.Core.Bool.{Bool, true, false, not, _&&_, _||_, or-false, or-assoc}
 use mathlib.Core.List.{[], _∷_, _++_}
 use mathlib.Core.Path.{_≡_, refl, sym, ap, ap₂, _∙_}
 use native.Mathlib.Omega.{arith}
-use native.Mathlib.Nat.{le-of-suc-le-suc}
+use mathlib.Core.Logic.{_⊎_, inl, inr}
+use native.Mathlib.Nat.{le-of-suc-le-suc, not-suc-le-zero}
 use lib.Dec.{eqb}
 use lib.ListN.{length, getD, drop, length-append}
 use lib.Seq.{drop-cons, drop-length}
 use Rattle.definitions.specs.Words.{Word}
+use Rattle.laws.specs.Tests.{or-l, or-r, or-cases, contrary}
 use Rattle.laws.specs.States.{matches, first, state, state-matches}
 
 -- ---- some place below n
@@ -43,6 +45,22 @@ anyTo-or (suc n) p q = ap (λ (t : Bool). p zero || q zero || t) (anyTo-or n (λ
     exchange false true true d = refl
     exchange false true false d = refl
     exchange false false c d = refl
+
+-- a test that holds of some number below n is found there
+pub anyTo-find : (n : ℕ) (p : ℕ → Bool) → anyTo n p ≡ true → (l : ℕ) × (l < n) × (p l ≡ true)
+anyTo-find zero p e = absurd (contrary false e refl)
+anyTo-find (suc n) p e = go (or-cases (p zero) (anyTo n (λ l. p (suc l))) e) (λ k. anyTo-find n (λ l. p (suc l)) k)
+  where
+    go : (p zero ≡ true) ⊎ (anyTo n (λ l. p (suc l)) ≡ true) → (anyTo n (λ l. p (suc l)) ≡ true → (l : ℕ) × (l < n) × (p (suc l) ≡ true))
+        → (l : ℕ) × (l < suc n) × (p l ≡ true)
+    go (inl a) rec = (zero, omega arith, a)
+    go (inr b) rec = let r = rec b in (suc (r .0), omega (arith, r .1), r .2)
+
+-- and makes the whole hold
+pub anyTo-there : (n : ℕ) (p : ℕ → Bool) (l : ℕ) → l < n → p l ≡ true → anyTo n p ≡ true
+anyTo-there zero p l h e = absurd (not-suc-le-zero h)
+anyTo-there (suc n) p zero h e = or-l (p zero) (anyTo n (λ l. p (suc l))) e
+anyTo-there (suc n) p (suc l) h e = or-r (p zero) (anyTo n (λ l. p (suc l))) (anyTo-there n (λ l. p (suc l)) l (le-of-suc-le-suc h) e)
 
 -- ---- threads
 
