@@ -2,23 +2,26 @@
 -- as there: a1 is the first letter of w.
 -- Assumes nothing.
 use Prim.Native.Nat.{ℕ, zero, suc, _+_, _-_, _*_, _≤_, _<_}
-use mathlib.Core.Bool.{Bool, true, false, cond, not, _&&_, _||_, and-true, and-false, and-assoc, and-comm}
-use mathlib.Core.List.{[], _∷_, _++_}
+use mathlib.Core.Bool.{Bool, true, false, cond, not, _&&_, _||_, and-true, and-false, or-false, and-assoc, and-comm, Bool·not-not}
+use mathlib.Core.List.{[], _∷_, _++_, map}
 use mathlib.Core.Path.{_≡_, refl, sym, ap, ap₂, _∙_}
-use native.Mathlib.Nat.{zero-add, add-zero, suc-add, add-suc, suc-inj}
+use native.Mathlib.Nat.{zero-add, add-zero, suc-add, add-suc, suc-inj, not-suc-le-zero, le-of-suc-le-suc}
 use native.Mathlib.Omega.{arith}
-use borrow.Author.Tests.{ltb-true, ltb-false, lt-ltb, le-ltb, leb-true, leb-false, le-leb, lt-leb, eqb-true, eqb-false, eq-eqb, ne-eqb}
+use borrow.Author.Tests.{ltb-true, ltb-false, lt-ltb, le-ltb, leb-true, leb-false, le-leb, lt-leb, eqb-true, eqb-false, eq-eqb, not-true}
 use lib.Dec.{ltb, leb, eqb}
 use lib.ListN.{length, getD, take, drop, length-drop, drop-of-length-le}
 use lib.Seq.{take-suc, length-take-le, drop-append-le}
-use Rattle.definitions.specs.Words.{Word, Letters, val, same}
+use Rattle.definitions.specs.Lists.{total}
+use Rattle.definitions.specs.Words.{Word, Letters, letters, val, same}
 use Rattle.definitions.specs.Vigemins.{value}
-use Rattle.laws.specs.Tests.{test-ext, same-eq, same-refl}
+use Rattle.laws.specs.Tests.{and-r, and-cong, test-ext, contrary, same-eq, same-refl}
 use Rattle.laws.specs.Numbers.{high-less, number-append}
 use Rattle.laws.specs.Minima.{letters-take, letters-drop}
-use Rattle.laws.specs.Orders.{Ranking, OneToOne, ranked, rankedFrom, letter-at, value-one}
-use Rattle.laws.specs.States.{matches, first}
-use Rattle.laws.specs.Threads.{anyTo}
+use Rattle.laws.specs.Orders.{Ranking, OneToOne, ranked, rankedFrom, letter-at, rank-same, value-one}
+use Rattle.laws.specs.States.{matches, first, matches-all, matches-short}
+use Rattle.laws.specs.Threads.{anyTo, anyTo-cong, anyTo-last, anyTo-find, anyTo-there, bad}
+use Rattle.laws.specs.Acceptors.{belowHit, above-not, not-or}
+use Rattle.laws.specs.Tables.{fine, fineAt, doneAt, allFine}
 use Rattle.laws.specs.Prefixes.{goesOn}
 
 -- how one number stands to another
@@ -63,11 +66,8 @@ module _ (ρ : Ranking) (w : Word) where
   isLetter zero b = false
   isLetter (suc l) b = goesOn w l b
 
-  module _ (c n : ℕ) where
-    -- whether the m-mer that starts at j counts: it exists in a word of n letters that c letters follow
-    abbrev pub counts : ℕ → Bool
-    counts j = leb (length w + j) (suc (n + c))
-
+  -- counts j tells whether the m-mer that starts at j counts
+  module _ (counts : ℕ → Bool) where
     -- whether i shared letters ban a word: some R(i',j) with 2 ≤ j ≤ i' ≤ i is below
     abbrev pub banned : ℕ → Bool
     banned i = anyTo i (λ i′. anyTo i′ (λ q. counts (suc (suc q)) && isLess (R (suc i′) (suc (suc q)))))
@@ -80,6 +80,11 @@ module _ (ρ : Ranking) (w : Word) where
     -- T: the least j from 2 to i+1 with R(i,j) equal and b = a(i−j+2); i+2 where there is none
     abbrev pub T : ℕ → ℕ → ℕ
     T i b = suc (suc (firstTo i (λ q. counts (suc (suc q)) && isEqual (R i (suc (suc q))) && isLetter (i - q) b)))
+
+    -- the rule for words of n letters that share exactly i with w, from the number of those that share at least so many: none where
+    -- the shared letters ban them; else, for each letter that may follow, those T−1 shorter that share at least i−T+2 letters
+    abbrev pub byPrefix : (ℕ → ℕ → ℕ) → ℕ → ℕ → ℕ
+    byPrefix from i n = cond (banned i) 0 (total (map (λ b. cond (restrained i b) (from (suc (suc i) - T i b) (suc n - T i b)) 0) letters))
 
 -- ---- R by states
 
@@ -174,3 +179,240 @@ module _ (ρ : Ranking) (one : OneToOne ρ) (w : Word) (hw : Letters w) where
       against f g k =
           k (value (ranked ρ) S) (value (ranked ρ) (take (length S) w))
           ∙ ap (λ (n : ℕ). g (value (ranked ρ) S) (value (ranked ρ) (take n w))) (length-stretch w p l i e (omega arith))
+
+-- ---- the least number of which a test holds
+
+pub firstTo-le : (n : ℕ) (p : ℕ → Bool) → firstTo n p ≤ n
+firstTo-le zero p = omega arith
+firstTo-le (suc n) p = go (p zero) (firstTo-le n (λ q. p (suc q)))
+  where
+    go : (t : Bool) → firstTo n (λ q. p (suc q)) ≤ n → cond t zero (suc (firstTo n (λ q. p (suc q)))) ≤ suc n
+    go true h = omega arith
+    go false h = omega arith
+
+-- a number at which a test holds, and below which it does not, is the least
+pub firstTo-is : (n : ℕ) (p : ℕ → Bool) (q : ℕ) → q < n → p q ≡ true → ((l : ℕ) → l < q → p l ≡ false) → firstTo n p ≡ q
+firstTo-is zero p q h e low = absurd (not-suc-le-zero h)
+firstTo-is (suc n) p zero h e low = ap (λ (t : Bool). cond t zero (suc (firstTo n (λ q. p (suc q))))) e
+firstTo-is (suc n) p (suc q) h e low =
+    ap₂ (λ (t : Bool) (k : ℕ). cond t zero (suc k)) (low zero (omega arith)) (firstTo-is n (λ l. p (suc l)) q (le-of-suc-le-suc h) e (λ l k. low (suc l) (omega arith)))
+
+pub firstTo-none : (n : ℕ) (p : ℕ → Bool) → ((l : ℕ) → l < n → p l ≡ false) → firstTo n p ≡ n
+firstTo-none zero p h = refl
+firstTo-none (suc n) p h = ap₂ (λ (t : Bool) (k : ℕ). cond t zero (suc k)) (h zero (omega arith)) (firstTo-none n (λ l. p (suc l)) (λ l k. h (suc l) (omega arith)))
+
+firstTo-holds : (n : ℕ) (p : ℕ → Bool) → firstTo n p < n → p (firstTo n p) ≡ true
+firstTo-holds zero p h = absurd (not-suc-le-zero h)
+firstTo-holds (suc n) p h = go (p zero) refl h (λ k. firstTo-holds n (λ q. p (suc q)) k)
+  where
+    go : (t : Bool) → p zero ≡ t → cond t zero (suc (firstTo n (λ q. p (suc q)))) < suc n → (firstTo n (λ q. p (suc q)) < n → p (suc (firstTo n (λ q. p (suc q)))) ≡ true)
+        → p (cond t zero (suc (firstTo n (λ q. p (suc q))))) ≡ true
+    go true e k rec = e
+    go false e k rec = rec (le-of-suc-le-suc k)
+
+firstTo-before : (n : ℕ) (p : ℕ → Bool) (q : ℕ) → q < firstTo n p → p q ≡ false
+firstTo-before zero p q h = absurd (not-suc-le-zero h)
+firstTo-before (suc n) p q h = go (p zero) refl q h (λ l k. firstTo-before n (λ i. p (suc i)) l k)
+  where
+    go : (t : Bool) → p zero ≡ t → (l : ℕ) → l < cond t zero (suc (firstTo n (λ i. p (suc i)))) → ((k : ℕ) → k < firstTo n (λ i. p (suc i)) → p (suc k) ≡ false) → p l ≡ false
+    go true e l k rec = absurd (not-suc-le-zero k)
+    go false e zero k rec = e
+    go false e (suc l) k rec = rec l (le-of-suc-le-suc k)
+
+pub firstTo-cong : (n : ℕ) (p q : ℕ → Bool) → ((l : ℕ) → l < n → p l ≡ q l) → firstTo n p ≡ firstTo n q
+firstTo-cong zero p q h = refl
+firstTo-cong (suc n) p q h = ap₂ (λ (t : Bool) (k : ℕ). cond t zero (suc k)) (h zero (omega arith)) (firstTo-cong n (λ l. p (suc l)) (λ l. q (suc l)) (λ l k. h (suc l) (omega arith)))
+
+-- going through the numbers below n from above
+anyTo-down : (n : ℕ) (p : ℕ → Bool) → anyTo n (λ q. p (n - suc q)) ≡ anyTo n p
+anyTo-down n p =
+    test-ext (anyTo n (λ q. p (n - suc q))) (anyTo n p)
+      (λ e. let r = anyTo-find n (λ q. p (n - suc q)) e in anyTo-there n p (n - suc (r .0)) (omega (arith, r .1)) (r .2))
+      (λ e. let r = anyTo-find n p e in
+        anyTo-there n (λ q. p (n - suc q)) (n - suc (r .0)) (omega (arith, r .1))
+          (ap p (let k : r .0 < n = r .1 in let q : n - suc (n - suc (r .0)) ≡ r .0 = omega arith in q) ∙ r .2))
+
+-- a test that fails from i on is tried below i alone
+anyTo-stop : (i n : ℕ) (p : ℕ → Bool) → i ≤ n → ((l : ℕ) → i ≤ l → l < n → p l ≡ false) → anyTo n p ≡ anyTo i p
+anyTo-stop i n p h none =
+    test-ext (anyTo n p) (anyTo i p)
+      (λ e. let r = anyTo-find n p e in go (r .0) (r .1) (r .2) (leb i (r .0)) refl)
+      (λ e. let r = anyTo-find i p e in anyTo-there n p (r .0) (omega (arith, r .1)) (r .2))
+  where
+    go : (l : ℕ) → l < n → p l ≡ true → (t : Bool) → leb i l ≡ t → anyTo i p ≡ true
+    go l k e true q = absurd (contrary (p l) e (none l (leb-true i l q) k))
+    go l k e false q = anyTo-there i p l (leb-false i l q) e
+
+leb-cong : (a b c d : ℕ) → (a ≤ b → c ≤ d) → (c ≤ d → a ≤ b) → leb a b ≡ leb c d
+leb-cong a b c d f g = test-ext (leb a b) (leb c d) (λ e. le-leb c d (f (leb-true a b e))) (λ e. le-leb a b (g (leb-true c d e)))
+
+-- ---- the letter that follows a shared prefix
+
+module _ (ρ : Ranking) (one : OneToOne ρ) (w : Word) (hw : Letters w) where
+  on-w : (l b : ℕ) → l < length w → goesOn w l b ≡ eqb b (getD w l 0)
+  on-w l b h = ap (λ (t : Bool). t && eqb b (getD w l 0)) (lt-ltb l (length w) h)
+
+  -- at a place of w a letter that is not w's and does not rank below it ranks above it
+  rank-above : (l b : ℕ) → l < length w → b < 4 → Σ ρ w (suc l) b ≡ (not (goesOn w l b) && not (ltb (ρ l b) (ρ l (getD w l 0))))
+  rank-above l b h hb =
+      ap (λ (t : Bool). t || ltb (ρ l (getD w l 0)) (ρ l b)) (lt-leb (length w) l h)
+      ∙ above-not (ρ l b) (ρ l (getD w l 0))
+      ∙ not-or (ltb (ρ l b) (ρ l (getD w l 0))) (eqb (ρ l b) (ρ l (getD w l 0)))
+      ∙ ap (λ (t : Bool). not (ltb (ρ l b) (ρ l (getD w l 0))) && not t) (rank-same ρ one l b (getD w l 0) hb (letter-at w l hw) ∙ sym (on-w l b h))
+      ∙ and-comm (not (ltb (ρ l b) (ρ l (getD w l 0)))) (not (goesOn w l b))
+
+  -- and one that ranks above w's or is it does not rank below it
+  rank-not-below : (l b : ℕ) → l < length w → b < 4 → (Σ ρ w (suc l) b || isLetter ρ w (suc l) b) ≡ not (ltb (ρ l b) (ρ l (getD w l 0)))
+  rank-not-below l b h hb =
+      ap (λ (t : Bool). t || goesOn w l b) (rank-above l b h hb) ∙ go (ltb (ρ l b) (ρ l (getD w l 0))) (goesOn w l b) refl refl
+    where
+      go : (x y : Bool) → ltb (ρ l b) (ρ l (getD w l 0)) ≡ x → goesOn w l b ≡ y → (not y && not x || y) ≡ not x
+      go true true p q =
+          let e : ρ l b ≡ ρ l (getD w l 0) = ap (ρ l) (eqb-true b (getD w l 0) (sym (on-w l b h) ∙ q)) in
+          absurd (omega (arith, ltb-true (ρ l b) (ρ l (getD w l 0)) p))
+      go true false p q = refl
+      go false true p q = refl
+      go false false p q = refl
+
+  module _ (final : Bool) (t : Word) where
+    -- a hit at the place of one m-mer
+    abbrev hitAt : ℕ → ℕ → ℕ → ℕ → Bool
+    hitAt i r b l = matches w l (first w i) && belowHit ρ w l b (suc (r + length t))
+
+    -- at state i the letter b hits the tied m-mers that began after the first place, or the one that began there
+    bad-places : (i r b : ℕ) → i ≤ length w → (matches w (length w) (first w i) && final) ≡ false → length w ≤ i + suc (r + length t)
+        → bad w (belowHit ρ w) final (first w i) (suc (r + length t)) b
+          ≡ (anyTo i (hitAt i r b) || (ltb i (length w) && ltb (ρ i b) (ρ i (getD w i 0))))
+    bad-places i r b h off long =
+        ap (λ (x : Bool). x || anyTo (length w) (hitAt i r b)) off ∙ go (ltb i (length w)) refl
+      where
+        past : (l : ℕ) → i < l → hitAt i r b l ≡ false
+        past l k = ap (λ (x : Bool). x && belowHit ρ w l b (suc (r + length t))) (matches-short w i l k)
+        here : hitAt i r b i ≡ ltb (ρ i b) (ρ i (getD w i 0))
+        here = ap₂ (λ (x y : Bool). x && (y && ltb (ρ i b) (ρ i (getD w i 0)))) (matches-all w i) (le-leb (length w) (i + suc (r + length t)) long)
+        go : (d : Bool) → ltb i (length w) ≡ d → anyTo (length w) (hitAt i r b) ≡ (anyTo i (hitAt i r b) || (d && ltb (ρ i b) (ρ i (getD w i 0))))
+        go true q =
+            anyTo-stop (suc i) (length w) (hitAt i r b) (ltb-true i (length w) q) (λ l k j. past l k)
+            ∙ anyTo-last i (hitAt i r b) ∙ ap (λ (x : Bool). anyTo i (hitAt i r b) || x) here
+        go false q =
+            anyTo-stop i (length w) (hitAt i r b) h (λ l k j. absurd (omega (arith, ltb-false i (length w) q)))
+            ∙ sym (or-false (anyTo i (hitAt i r b)))
+
+    -- the same, by the place j at which each m-mer starts
+    hits-starts : (i r b : ℕ) → i ≤ length w → b < 4
+        → anyTo i (hitAt i r b)
+          ≡ anyTo i (λ q. leb (length w + suc (suc q)) (suc (i + suc r + length t)) && isEqual (R ρ w i (suc (suc q)))
+              && not (Σ ρ w (i - q) b || isLetter ρ w (i - q) b))
+    hits-starts i r b h hb = sym (anyTo-down i (hitAt i r b)) ∙ anyTo-cong i each
+      where
+        turn : (m e l : Bool) → (m && (e && l)) ≡ (e && m && l)
+        turn true true l = refl
+        turn true false l = refl
+        turn false true l = refl
+        turn false false l = refl
+        at : (q l : ℕ) → suc q + l ≡ i → hitAt i r b l
+            ≡ (leb (length w + suc (suc q)) (suc (i + suc r + length t)) && isEqual (R ρ w i (suc (suc q))) && not (Σ ρ w (suc l) b || isLetter ρ w (suc l) b))
+        at q l e =
+            turn (matches w l (first w i)) (leb (length w) (l + suc (r + length t))) (ltb (ρ l b) (ρ l (getD w l 0)))
+            ∙ ap₂ (λ (x y : Bool). x && y && ltb (ρ l b) (ρ l (getD w l 0)))
+                (leb-cong (length w) (l + suc (r + length t)) (length w + suc (suc q)) (suc (i + suc r + length t)) (λ k. omega arith) (λ k. omega arith))
+                (sym (equal-matches ρ one w hw (suc q) l i e h))
+            ∙ ap (λ (x : Bool). leb (length w + suc (suc q)) (suc (i + suc r + length t)) && isEqual (R ρ w i (suc (suc q))) && x)
+                (sym (Bool·not-not (ltb (ρ l b) (ρ l (getD w l 0)))) ∙ ap not (sym (rank-not-below l b (omega arith) hb)))
+        each : (q : ℕ) → q < i → hitAt i r b (i - suc q)
+            ≡ (leb (length w + suc (suc q)) (suc (i + suc r + length t)) && isEqual (R ρ w i (suc (suc q))) && not (Σ ρ w (i - q) b || isLetter ρ w (i - q) b))
+        each q k =
+            at q (i - suc q) (omega arith)
+            ∙ ap (λ (n : ℕ). leb (length w + suc (suc q)) (suc (i + suc r + length t)) && isEqual (R ρ w i (suc (suc q))) && not (Σ ρ w n b || isLetter ρ w n b))
+                (let e : suc (i - suc q) ≡ i - q = omega arith in e)
+
+    -- a letter that does not go on with w is fine exactly if it is restrained so
+    fine-restrained : (i r b : ℕ) → i ≤ length w → b < 4 → (matches w (length w) (first w i) && final) ≡ false → length w ≤ i + suc (r + length t)
+        → (not (goesOn w i b) && fineAt w (belowHit ρ w) final t i r b)
+          ≡ restrained ρ w (λ j. leb (length w + j) (suc (i + suc r + length t))) i b
+    fine-restrained i r b h hb off long =
+        ap (λ (x : Bool). not (goesOn w i b) && not x) (bad-places i r b h off long)
+        ∙ gather (goesOn w i b) (anyTo i (hitAt i r b)) (ltb i (length w) && ltb (ρ i b) (ρ i (getD w i 0)))
+        ∙ ap₂ (λ (x y : Bool). x && not y) (sym at-end) (hits-starts i r b h hb)
+      where
+        gather : (g a u : Bool) → (not g && not (a || u)) ≡ (not g && not u && not a)
+        gather true a u = refl
+        gather false true true = refl
+        gather false true false = refl
+        gather false false true = refl
+        gather false false false = refl
+        go : (d : Bool) → ltb i (length w) ≡ d → Σ ρ w (suc i) b ≡ (not (goesOn w i b) && not (d && ltb (ρ i b) (ρ i (getD w i 0))))
+        go true q = rank-above i b (ltb-true i (length w) q) hb
+        go false q =
+            ap (λ (x : Bool). x || ltb (ρ i (getD w i 0)) (ρ i b)) (le-leb (length w) i (ltb-false i (length w) q))
+            ∙ ap (λ (x : Bool). not (x && eqb b (getD w i 0)) && true) (sym q)
+        at-end : Σ ρ w (suc i) b ≡ (not (goesOn w i b) && not (ltb i (length w) && ltb (ρ i b) (ρ i (getD w i 0))))
+        at-end = go (ltb i (length w)) refl
+
+-- ---- what the shared letters ban
+
+less-not-equal : (s : Sign) → isLess s ≡ true → isEqual s ≡ true → ⊥
+less-not-equal less p q = contrary false q refl
+less-not-equal equal p q = contrary false p refl
+less-not-equal greater p q = contrary false p refl
+
+module _ (ρ : Ranking) (one : OneToOne ρ) (w : Word) (hw : Letters w) (final : Bool) (t : Word) where
+  -- which m-mers exist in a word of n letters that t follows
+  abbrev pub exists : ℕ → ℕ → Bool
+  exists n j = leb (length w + j) (suc (n + length t))
+
+  unbanned : (i n q : ℕ) → q < suc i → suc i ≤ length w → banned ρ w (exists n) (suc i) ≡ false
+      → (exists n (suc (suc q)) && isLess (R ρ w (suc i) (suc (suc q)))) ≡ false
+  unbanned i n q k h free = go (exists n (suc (suc q)) && isLess (R ρ w (suc i) (suc (suc q)))) refl (ltb q i) refl
+    where
+      go : (x : Bool) → (exists n (suc (suc q)) && isLess (R ρ w (suc i) (suc (suc q)))) ≡ x → (d : Bool) → ltb q i ≡ d → x ≡ false
+      go false e d p = refl
+      go true e true p =
+          absurd (contrary (banned ρ w (exists n) (suc i))
+            (anyTo-there (suc i) (λ i′. anyTo i′ (λ j. exists n (suc (suc j)) && isLess (R ρ w (suc i′) (suc (suc j))))) i (omega arith)
+              (anyTo-there i (λ j. exists n (suc (suc j)) && isLess (R ρ w (suc i) (suc (suc j)))) q (ltb-true q i p) e)) free)
+      go true e false p =
+          absurd (less-not-equal (R ρ w (suc i) (suc (suc q))) (and-r (exists n (suc (suc q))) (isLess (R ρ w (suc i) (suc (suc q)))) e)
+            (equal-matches ρ one w hw (suc q) zero (suc i) (omega (arith, ltb-false q i p)) h))
+
+  -- where the letters up to i do not ban, those up to i+1 do exactly if w's own next letter hits
+  row-hits : (i r : ℕ) → i < length w → banned ρ w (exists (i + suc r)) i ≡ false
+      → anyTo i (λ q. exists (i + suc r) (suc (suc q)) && isLess (R ρ w (suc i) (suc (suc q)))) ≡ anyTo i (hitAt ρ one w hw final t i r (getD w i 0))
+  row-hits zero r h free = refl
+  row-hits (suc i) r h free =
+      anyTo-cong (suc i) (λ q k. at q (suc i - suc q) (omega arith) (unbanned i (suc i + suc r) q k (omega arith) free))
+      ∙ anyTo-down (suc i) (hitAt ρ one w hw final t (suc i) r (getD w (suc i) 0))
+    where
+      alone : (e x y l : Bool) → (e && x) ≡ false → (e && (x || (y && l))) ≡ (y && (e && l))
+      alone true true y l p = absurd (contrary true refl p)
+      alone true false y l p = refl
+      alone false x true l p = refl
+      alone false x false l p = refl
+      at : (q l : ℕ) → suc q + l ≡ suc i → (exists (suc i + suc r) (suc (suc q)) && isLess (R ρ w (suc i) (suc (suc q)))) ≡ false
+          → (exists (suc i + suc r) (suc (suc q)) && isLess (R ρ w (suc (suc i)) (suc (suc q)))) ≡ hitAt ρ one w hw final t (suc i) r (getD w (suc i) 0) l
+      at q l e off =
+          ap (λ (x : Bool). exists (suc i + suc r) (suc (suc q)) && x) (less-last ρ one w hw (suc q) l (suc i) e h)
+          ∙ alone (exists (suc i + suc r) (suc (suc q))) (isLess (R ρ w (suc i) (suc (suc q)))) (isEqual (R ρ w (suc i) (suc (suc q))))
+              (ltb (ρ l (getD w (suc i) 0)) (ρ l (getD w l 0))) off
+          ∙ ap₂ (λ (x y : Bool). x && (y && ltb (ρ l (getD w (suc i) 0)) (ρ l (getD w l 0)))) (equal-matches ρ one w hw (suc q) l (suc i) e (omega arith))
+              (leb-cong (length w + suc (suc q)) (suc (suc i + suc r + length t)) (length w) (l + suc (r + length t)) (λ k. omega arith) (λ k. omega arith))
+
+  -- the first i letters of w are fine one after the other exactly if they do not ban
+  pub fine-banned : (i r : ℕ) → i ≤ length w → length w ≤ i + r + length t
+      → allFine w (belowHit ρ w) final t (first w i) r ≡ not (banned ρ w (exists (i + r)) i)
+  fine-banned zero r h long = refl
+  fine-banned (suc i) r h long =
+      ap (λ (x : Bool). fine w (belowHit ρ w) final t (first w i) r (getD w i 0) && x) (fine-banned i (suc r) (omega arith) (omega arith))
+      ∙ and-comm (fine w (belowHit ρ w) final t (first w i) r (getD w i 0)) (not (banned ρ w (exists (i + suc r)) i))
+      ∙ and-cong (not (banned ρ w (exists (i + suc r)) i)) _ _ (λ e. ap not (next-row (not-true (banned ρ w (exists (i + suc r)) i) e)))
+      ∙ sym (not-or (banned ρ w (exists (i + suc r)) i) (row (i + suc r)))
+      ∙ ap not (sym (anyTo-last i (λ i′. anyTo i′ (λ q. exists (i + suc r) (suc (suc q)) && isLess (R ρ w (suc i′) (suc (suc q)))))))
+      ∙ ap (λ (n : ℕ). not (banned ρ w (exists n) (suc i))) (let e : i + suc r ≡ suc i + r = omega arith in e)
+    where
+      row : ℕ → Bool
+      row n = anyTo i (λ q. exists n (suc (suc q)) && isLess (R ρ w (suc i) (suc (suc q))))
+      next-row : banned ρ w (exists (i + suc r)) i ≡ false → bad w (belowHit ρ w) final (first w i) (suc (r + length t)) (getD w i 0) ≡ row (i + suc r)
+      next-row free =
+          bad-places ρ one w hw final t i r (getD w i 0) (omega arith) (ap (λ (x : Bool). x && final) (matches-short w i (length w) h)) (omega arith)
+          ∙ ap₂ (λ (x y : Bool). x || (ltb i (length w) && y)) (sym (row-hits i r h free)) (le-ltb (ρ i (getD w i 0)) (ρ i (getD w i 0)) (omega arith))
+          ∙ ap (λ (x : Bool). row (i + suc r) || x) (and-false (ltb i (length w))) ∙ or-false (row (i + suc r))
