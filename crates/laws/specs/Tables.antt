@@ -159,18 +159,20 @@ module _ (w : Word) (hit : ℕ → ℕ → ℕ → Bool) (final : Bool) (t : Wor
           at : (d : Bool) → leb l s ≡ d → matches w l past ≡ true
           at true q = matches-first w s past l e (leb-true l s q) ∙ k
           at false q = absurd (contrary (matches w l (first w s)) k (matches-short w s l (leb-false l s q)))
+
       still : bad w hit final (first w s) (suc (n + length t)) b ≡ true → bad w hit final past (suc (n + length t)) b ≡ true
       still k =
           ⊎-elim
-            (λ a. or-l (matches w (length w) past && final) (anyTo (length w) (λ l. matches w l past && hit l b (suc (n + length t))))
-              (and-i (matches w (length w) past) final (up (length w) (and-l (matches w (length w) (first w s)) final a)) (and-r (matches w (length w) (first w s)) final a)))
-            (λ a. let r = anyTo-find (length w) (λ l. matches w l (first w s) && hit l b (suc (n + length t))) a in
-              or-r (matches w (length w) past && final) (anyTo (length w) (λ l. matches w l past && hit l b (suc (n + length t))))
-                (anyTo-there (length w) (λ l. matches w l past && hit l b (suc (n + length t))) (r .0) (r .1)
-                  (and-i (matches w (r .0) past) (hit (r .0) b (suc (n + length t)))
-                    (up (r .0) (and-l (matches w (r .0) (first w s)) (hit (r .0) b (suc (n + length t))) (r .2)))
-                    (and-r (matches w (r .0) (first w s)) (hit (r .0) b (suc (n + length t))) (r .2)))))
-            (or-cases (matches w (length w) (first w s) && final) (anyTo (length w) (λ l. matches w l (first w s) && hit l b (suc (n + length t)))) k)
+          (λ a. or-l (matches w (length w) past && final) (anyTo (length w) (λ l. matches w l past && hit l b (suc (n + length t))))
+          (and-i (matches w (length w) past) final (up (length w) (and-l (matches w (length w) (first w s)) final a)) (and-r (matches w (length w) (first w s)) final a)))
+          (λ a. let r = anyTo-find (length w) (λ l. matches w l (first w s) && hit l b (suc (n + length t))) a in
+          or-r (matches w (length w) past && final) (anyTo (length w) (λ l. matches w l past && hit l b (suc (n + length t))))
+          (anyTo-there (length w) (λ l. matches w l past && hit l b (suc (n + length t))) (r .0) (r .1)
+          (and-i (matches w (r .0) past) (hit (r .0) b (suc (n + length t)))
+          (up (r .0) (and-l (matches w (r .0) (first w s)) (hit (r .0) b (suc (n + length t))) (r .2)))
+          (and-r (matches w (r .0) (first w s)) (hit (r .0) b (suc (n + length t))) (r .2)))))
+          (or-cases (matches w (length w) (first w s) && final) (anyTo (length w) (λ l. matches w l (first w s) && hit l b (suc (n + length t)))) k)
+
       go : (d : Bool) → bad w hit final (first w s) (suc (n + length t)) b ≡ d → not d ≡ true
       go true k = absurd (contrary (fine past n b) f (ap not (still k)))
       go false k = refl
@@ -181,9 +183,9 @@ module _ (w : Word) (hit : ℕ → ℕ → ℕ → Bool) (final : Bool) (t : Wor
   allFine-match (suc s) (b ∷ past) n e f =
       let k : matches w s past ≡ true = and-r (eqb b (getD w s 0)) (matches w s past) e in
       and-i (fine (first w s) n (getD w s 0)) (allFine (first w s) (suc n))
-        (fine-match s past n (getD w s 0) k
-          (ap (fine past n) (sym (eqb-true b (getD w s 0) (and-l (eqb b (getD w s 0)) (matches w s past) e))) ∙ and-l (fine past n b) (allFine past (suc n)) f))
-        (allFine-match s past (suc n) k (and-r (fine past n b) (allFine past (suc n)) f))
+      (fine-match s past n (getD w s 0) k
+      (ap (fine past n) (sym (eqb-true b (getD w s 0) (and-l (eqb b (getD w s 0)) (matches w s past) e))) ∙ and-l (fine past n b) (allFine past (suc n)) f))
+      (allFine-match s past (suc n) k (and-r (fine past n b) (allFine past (suc n)) f))
 
   -- the first i letters of w are allowed one after the other exactly if each was fine
   pub through-fine : (i n : ℕ) → i ≤ length w → through fineAt (next w) doneAt zero (take i w) n ≡ allFine (first w i) n
@@ -202,7 +204,7 @@ module _ (ρ : Ranking) (w : Word) (final : Bool) (t : Word) where
   caught-never l (a ∷ u) [] h k = refl
   caught-never l (a ∷ u) (b ∷ z) h k =
       ap₂ (λ (x y : Bool). x && ltb (ρ l b) (ρ l (getD w l 0)) || (eqb b a && y)) (lt-leb (length w) (l + suc (length z)) h)
-        (caught-never (suc l) u z (omega arith) (omega arith))
+      (caught-never (suc l) u z (omega arith) (omega arith))
       ∙ and-false (eqb b a)
 
   -- a test beside a match fails where the match does, or where the test fails of as many letters as can match
@@ -216,18 +218,18 @@ module _ (ρ : Ranking) (w : Word) (final : Bool) (t : Word) where
   fine-free : (s n b : ℕ) → s + suc (n + length t) < length w → fineAt w (belowHit ρ w) final t s n b ≡ true
   fine-free s n b h =
       ap₂ (λ (x y : Bool). not (x && final || y)) (matches-short w s (length w) (omega arith))
-        (anyTo-cong (length w)
-            (λ l k. matched-none s (λ i. belowHit ρ w i b (suc (n + length t))) l
-              (λ q. ap (λ (x : Bool). x && ltb (ρ l b) (ρ l (getD w l 0))) (lt-leb (length w) (l + suc (n + length t)) (omega arith))))
-          ∙ anyTo-never (length w))
+      (anyTo-cong (length w)
+      (λ l k. matched-none s (λ i. belowHit ρ w i b (suc (n + length t))) l
+      (λ q. ap (λ (x : Bool). x && ltb (ρ l b) (ρ l (getD w l 0))) (lt-leb (length w) (l + suc (n + length t)) (omega arith))))
+      ∙ anyTo-never (length w))
 
   done-free : (s : ℕ) → s + length t < length w → doneAt w (belowHit ρ w) final t s ≡ true
   done-free s h =
       ap not
-        (anyTo-cong (length w)
-            (λ l k. matched-none s (λ i. caught w (belowHit ρ w) final i (drop i w) t) (suc l)
-              (λ q. caught-never (suc l) (drop (suc l) w) t (omega arith) (let e : length (drop (suc l) w) ≡ length w - suc l = length-drop (suc l) w in omega arith)))
-          ∙ anyTo-never (length w))
+      (anyTo-cong (length w)
+      (λ l k. matched-none s (λ i. caught w (belowHit ρ w) final i (drop i w) t) (suc l)
+      (λ q. caught-never (suc l) (drop (suc l) w) t (omega arith) (let e : length (drop (suc l) w) ≡ length w - suc l = length-drop (suc l) w in omega arith)))
+      ∙ anyTo-never (length w))
 
   -- where no m-mer can exist any more, all words complete a state: a power of four
   pub ways-free : (n s : ℕ) → s + n + length t < length w
@@ -235,8 +237,8 @@ module _ (ρ : Ranking) (w : Word) (final : Bool) (t : Word) where
   ways-free zero s h = ap (λ (x : Bool). cond x 1 0) (done-free s (omega arith))
   ways-free (suc n) s h =
       ap (λ (g : ℕ → ℕ). total (map g letters))
-        (fun-ext λ b. ap₂ (λ (x : Bool) (c : ℕ). cond x c 0) (fine-free s n b (omega arith))
-          (ways-free n (next w s b) (let k : next w s b ≤ suc s = next-le w s b in omega arith)))
+      (fun-ext λ b. ap₂ (λ (x : Bool) (c : ℕ). cond x c 0) (fine-free s n b (omega arith))
+      (ways-free n (next w s b) (let k : next w s b ≤ suc s = next-le w s b in omega arith)))
       ∙ (omega arith)
 
 -- ---- antemers and postmers
