@@ -11,7 +11,9 @@ pub mod States
 pub mod Threads
 pub mod Acceptors
 pub mod Tables
+pub mod Marks
 pub mod Split
 pub mod Prefixes
 pub mod Rules
 pub mod Print
+pub mod Refusals

@@ -336,6 +336,10 @@ bad-none w past r b =
     (anyTo-cong (length w) (λ l h. and-false (matches w l past)) ∙ anyTo-never (length w))
     ∙ or-false (matches w (length w) past)
 
+-- where no letter is left, a postmer is one
+pub postmer-end : (ρ : Ranking) (w : Word) → 0 < length w → (i : ℕ) → postmerEnd ρ w i ≡ true
+postmer-end ρ w m i = ap not (old-none w (belowHit ρ w) false (first w i) m ∙ and-false (matches w (length w) (first w i)))
+
 module _ (ρ : Ranking) (w : Word) (m : 0 < length w) where
   shelf-run : (h : Bool) (past y : Word)
       → accepts (shelfOk ρ w) (shelfStep ρ w) (shelfEnd ρ w) (h, state w past) y

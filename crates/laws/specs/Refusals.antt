@@ -1,0 +1,57 @@
+-- Refusals: the number given is that of a ground that is met, it is 0 only where none is, and it is the lowest where the list
+-- increases.
+-- Assumes nothing.
+use Prim.Native.Nat.{ℕ, zero, suc, _≤_, _<_}
+use mathlib.Core.Bool.{Bool, true, false, cond}
+use mathlib.Core.List.{List, [], _∷_, map, List·Memᴰ, List·Memᴰ·head, List·Memᴰ·tail, List·Memᴰ·cases-cons, List·Memᴰ·not-nil}
+use mathlib.Core.Logic.{_⊎_, inl, inr, ⊎-elim}
+use mathlib.Core.Path.{_≡_, refl, sym, ap, _∙_}
+use native.Mathlib.Omega.{arith}
+use Rattle.definitions.specs.Refusals.{Ground, refusal}
+use Rattle.laws.specs.Tests.{contrary}
+use Rattle.laws.specs.Counting.{Above, Increasing}
+
+-- the numbers of some grounds
+abbrev pub numbers : List Ground → List ℕ
+numbers gs = map (λ (g : Ground). g .number) gs
+
+above-number : (n : ℕ) (gs : List Ground) → Above n (numbers gs) → {g : Ground} → List·Memᴰ g gs → n < g .number
+above-number n [] up m = absurd (List·Memᴰ·not-nil m)
+above-number n (h ∷ gs) up {g} m = ⊎-elim (λ e. rw e (up .0)) (λ k. above-number n gs (up .1) k) (List·Memᴰ·cases-cons m)
+
+-- a number that is given belongs to a ground that is met
+pub refusal-met : (gs : List Ground) → 0 < refusal gs → (g : Ground) × List·Memᴰ g gs × (g .met ≡ true) × (g .number ≡ refusal gs)
+refusal-met [] h = absurd (omega arith)
+refusal-met (g ∷ gs) h = go (g .met) refl h (λ k. refusal-met gs k)
+  where
+    go : (t : Bool) → g .met ≡ t → 0 < cond t (g .number) (refusal gs)
+        → (0 < refusal gs → (f : Ground) × List·Memᴰ f gs × (f .met ≡ true) × (f .number ≡ refusal gs))
+        → (f : Ground) × List·Memᴰ f (g ∷ gs) × (f .met ≡ true) × (f .number ≡ cond t (g .number) (refusal gs))
+    go true e k rec = (g, List·Memᴰ·head refl, e, refl)
+    go false e k rec = let r = rec k in (r .0, List·Memᴰ·tail (r .1), r .2, r .3)
+
+-- where the numbers increase, the first ground that is met is the lowest
+pub refusal-lowest : (gs : List Ground) → Increasing (numbers gs) → {g : Ground} → List·Memᴰ g gs → g .met ≡ true → refusal gs ≤ g .number
+refusal-lowest [] up m e = absurd (List·Memᴰ·not-nil m)
+refusal-lowest (h ∷ gs) up {g} m e = go (h .met) refl (List·Memᴰ·cases-cons m) (λ k. refusal-lowest gs (up .1) k e)
+  where
+    go : (t : Bool) → h .met ≡ t → (g ≡ h) ⊎ List·Memᴰ g gs → (List·Memᴰ g gs → refusal gs ≤ g .number) → cond t (h .number) (refusal gs) ≤ g .number
+    go true q (inl k) rec = omega (arith, ap (λ (f : Ground). f .number) k)
+    go true q (inr k) rec = omega (arith, above-number (h .number) gs (up .0) k)
+    go false q (inl k) rec = absurd (contrary (g .met) e (ap (λ (f : Ground). f .met) k ∙ q))
+    go false q (inr k) rec = rec k
+
+-- where each number is above 0, 0 is given only where no ground is met
+pub refusal-none : (gs : List Ground) → Above 0 (numbers gs) → refusal gs ≡ 0 → {g : Ground} → List·Memᴰ g gs → g .met ≡ false
+refusal-none [] up z m = absurd (List·Memᴰ·not-nil m)
+refusal-none (h ∷ gs) up z {g} m = go (h .met) refl z (List·Memᴰ·cases-cons m) (λ y k. refusal-none gs (up .1) y k)
+  where
+    go : (t : Bool) → h .met ≡ t → cond t (h .number) (refusal gs) ≡ 0 → (g ≡ h) ⊎ List·Memᴰ g gs → (refusal gs ≡ 0 → List·Memᴰ g gs → g .met ≡ false) → g .met ≡ false
+    go true q y k rec = absurd (omega (arith, up .0))
+    go false q y (inl k) rec = ap (λ (f : Ground). f .met) k ∙ q
+    go false q y (inr k) rec = rec y k
+
+-- where none is met, 0 is given
+pub refusal-zero : (gs : List Ground) → ((g : Ground) → List·Memᴰ g gs → g .met ≡ false) → refusal gs ≡ 0
+refusal-zero [] h = refl
+refusal-zero (g ∷ gs) h = ap (λ (t : Bool). cond t (g .number) (refusal gs)) (h g (List·Memᴰ·head refl)) ∙ refusal-zero gs (λ f m. h f (List·Memᴰ·tail m))
