@@ -1,7 +1,7 @@
 -- Counting: which words of n letters there are, how many of them pass a test, and that their numbers stand in increasing order.
 -- Assumes nothing.
 use Prim.Native.Nat.{ℕ, zero, suc, _+_, _*_, _^_, _≤_, _<_}
-use native.Mathlib.Nat.{zero-add, add-zero, suc-add, add-suc, add-assoc, add-comm, zero-mul, one-mul, suc-mul, add-mul, pow-suc, pow-succ', le-refl, ne-of-lt}
+use native.Mathlib.Nat.{zero-add, add-zero, suc-add, add-suc, add-assoc, add-comm, zero-mul, one-mul, suc-mul, add-mul, pow-suc, pow-succ', ne-of-lt}
 use native.Mathlib.Omega.{arith}
 use mathlib.Core.Bool.{Bool, true, false, _&&_, _||_}
 use mathlib.Core.List.{List, [], _∷_, _++_, map, map-map, map-append, List·Memᴰ, List·Memᴰ·head, List·Memᴰ·tail}
@@ -13,49 +13,11 @@ use lib.Dec.{ltb, eqb}
 use lib.ListN.{length, getD, take, drop, length-append, length-map}
 use Rattle.definitions.specs.Lists.{put, filter, tabulate, total}
 use Rattle.definitions.specs.Words.{Word, Letters, Mer, letters, spread, words, same, val}
-use Rattle.laws.specs.Filters.{joined, filter-sound, filter-complete, filter-split}
+use Rattle.laws.specs.Filters.{joined, filter-sound, filter-complete, filter-agree, filter-every, filter-none, filter-le, length-either, length-joined, filter-split}
 
 -- ---- lists
 
 module _ {A : Type 0} where
-  -- tests that agree on a list choose the same of it
-  pub filter-agree : (p q : A → Bool) (l : List A) → ((x : A) → List·Memᴰ x l → p x ≡ q x) → filter p l ≡ filter q l
-  filter-agree p q [] h = refl
-  filter-agree p q (a ∷ l) h =
-      ap₂ (λ (t : Bool) (r : List A). put t a r) (h a (List·Memᴰ·head refl)) (filter-agree p q l (λ x m. h x (List·Memᴰ·tail m)))
-
-  filter-every : (l : List A) → filter (λ x. true) l ≡ l
-  filter-every [] = refl
-  filter-every (a ∷ l) = ap (λ (r : List A). a ∷ r) (filter-every l)
-
-  filter-none : (l : List A) → filter (λ x. false) l ≡ []
-  filter-none [] = refl
-  filter-none (a ∷ l) = filter-none l
-
-  put-le : (t : Bool) (a : A) (l r : List A) → length l ≤ length r → length (put t a l) ≤ suc (length r)
-  put-le true a l r h = omega arith
-  put-le false a l r h = omega arith
-
-  -- no more is chosen than there is
-  pub filter-le : (p : A → Bool) (l : List A) → length (filter p l) ≤ length l
-  filter-le p [] = le-refl 0
-  filter-le p (a ∷ l) = put-le (p a) a (filter p l) l (filter-le p l)
-
-  put-either : (s t : Bool) (a : A) (l u v : List A) → (s ≡ true → t ≡ true → ⊥) → length l ≡ length u + length v
-      → length (put (s || t) a l) ≡ length (put s a u) + length (put t a v)
-  put-either true true a l u v h e = absurd (h refl refl)
-  put-either true false a l u v h e = omega arith
-  put-either false true a l u v h e = omega arith
-  put-either false false a l u v h e = e
-
-  -- where no entry passes both of two tests, as many pass either as pass the one and the other
-  pub length-either : (p q : A → Bool) (l : List A) → ((x : A) → List·Memᴰ x l → p x ≡ true → q x ≡ true → ⊥)
-      → length (filter (λ x. p x || q x) l) ≡ length (filter p l) + length (filter q l)
-  length-either p q [] h = refl
-  length-either p q (a ∷ l) h =
-      put-either (p a) (q a) a (filter (λ x. p x || q x) l) (filter p l) (filter q l) (h a (List·Memᴰ·head refl))
-      (length-either p q l (λ x m. h x (List·Memᴰ·tail m)))
-
   -- a common factor comes out of a sum
   pub total-mul : (f : A → ℕ) (c : ℕ) (l : List A) → total (map (λ a. f a * c) l) ≡ total (map f l) * c
   total-mul f c [] = sym (zero-mul c)
@@ -74,11 +36,6 @@ module _ {A B : Type 0} where
   map-tabulate : (g : A → B) (f : ℕ → A) (n : ℕ) → map g (tabulate f n) ≡ tabulate (λ i. g (f i)) n
   map-tabulate g f zero = refl
   map-tabulate g f (suc n) = ap (λ (r : List B). g (f zero) ∷ r) (map-tabulate g (λ i. f (suc i)) n)
-
-  -- the length of lists in a row is the sum of their lengths
-  pub length-joined : (f : A → List B) (l : List A) → length (joined f l) ≡ total (map (λ a. length (f a)) l)
-  length-joined f [] = refl
-  length-joined f (a ∷ l) = length-append (f a) (joined f l) ∙ ap (λ n. length (f a) + n) (length-joined f l)
 
 -- ---- the words of n letters
 

@@ -1,11 +1,14 @@
 -- Filters: what is chosen from a list, from joined lists, and from all words of n + 1 letters.
 -- Assumes nothing.
-use Prim.Native.Nat.{ℕ, suc}
-use mathlib.Core.Bool.{Bool, true, false, not, _&&_, _||_}
-use mathlib.Core.List.{List, [], _∷_, _++_, map, append-assoc, List·Memᴰ, List·Memᴰ·head, List·Memᴰ·tail, List·Memᴰ·cases-cons, List·Memᴰ·not-nil}
+use Prim.Native.Nat.{ℕ, suc, _+_, _≤_}
+use native.Mathlib.Nat.{le-refl}
+use native.Mathlib.Omega.{arith}
+use mathlib.Core.Bool.{Bool, true, false, _||_}
+use mathlib.Core.List.{List, [], _∷_, _++_, map, List·Memᴰ, List·Memᴰ·head, List·Memᴰ·tail, List·Memᴰ·cases-cons, List·Memᴰ·not-nil}
 use mathlib.Core.Logic.{_⊎_, inl, inr, ⊎-elim}
 use mathlib.Core.Path.{_≡_, refl, sym, ap, ap₂, _∙_}
-use Rattle.definitions.specs.Lists.{put, filter, all}
+use lib.ListN.{length, length-append}
+use Rattle.definitions.specs.Lists.{put, filter, total}
 use Rattle.definitions.specs.Words.{Word, letters, spread, words}
 use Rattle.laws.specs.Tests.{contrary}
 
@@ -47,11 +50,56 @@ module _ {A : Type 0} where
       put-append true x l r = refl
       put-append false x l r = refl
 
+  -- tests that agree on a list choose the same of it
+  pub filter-agree : (p q : A → Bool) (l : List A) → ((x : A) → List·Memᴰ x l → p x ≡ q x) → filter p l ≡ filter q l
+  filter-agree p q [] h = refl
+  filter-agree p q (a ∷ l) h =
+      ap₂ (λ (t : Bool) (r : List A). put t a r) (h a (List·Memᴰ·head refl)) (filter-agree p q l (λ x m. h x (List·Memᴰ·tail m)))
+
+  -- a test that all pass chooses all
+  pub filter-every : (l : List A) → filter (λ x. true) l ≡ l
+  filter-every [] = refl
+  filter-every (a ∷ l) = ap (λ (r : List A). a ∷ r) (filter-every l)
+
+  -- a test that none passes chooses none
+  pub filter-none : (l : List A) → filter (λ x. false) l ≡ []
+  filter-none [] = refl
+  filter-none (a ∷ l) = filter-none l
+
+  put-le : (t : Bool) (a : A) (l r : List A) → length l ≤ length r → length (put t a l) ≤ suc (length r)
+  put-le true a l r h = omega arith
+  put-le false a l r h = omega arith
+
+  -- no more is chosen than there is
+  pub filter-le : (p : A → Bool) (l : List A) → length (filter p l) ≤ length l
+  filter-le p [] = le-refl 0
+  filter-le p (a ∷ l) = put-le (p a) a (filter p l) l (filter-le p l)
+
+  put-either : (s t : Bool) (a : A) (l u v : List A) → (s ≡ true → t ≡ true → ⊥) → length l ≡ length u + length v
+      → length (put (s || t) a l) ≡ length (put s a u) + length (put t a v)
+  put-either true true a l u v h e = absurd (h refl refl)
+  put-either true false a l u v h e = omega arith
+  put-either false true a l u v h e = omega arith
+  put-either false false a l u v h e = e
+
+  -- where no entry passes both of two tests, as many pass either as pass the one and the other
+  pub length-either : (p q : A → Bool) (l : List A) → ((x : A) → List·Memᴰ x l → p x ≡ true → q x ≡ true → ⊥)
+      → length (filter (λ x. p x || q x) l) ≡ length (filter p l) + length (filter q l)
+  length-either p q [] h = refl
+  length-either p q (a ∷ l) h =
+      put-either (p a) (q a) a (filter (λ x. p x || q x) l) (filter p l) (filter q l) (h a (List·Memᴰ·head refl))
+      (length-either p q l (λ x m. h x (List·Memᴰ·tail m)))
+
 module _ {A B : Type 0} where
   -- the lists that f gives for some entries, in a row
   abbrev pub joined : (A → List B) → List A → List B
   joined f [] = []
   joined f (a ∷ l) = f a ++ joined f l
+
+  -- the length of lists in a row is the sum of their lengths
+  pub length-joined : (f : A → List B) (l : List A) → length (joined f l) ≡ total (map (λ a. length (f a)) l)
+  length-joined f [] = refl
+  length-joined f (a ∷ l) = length-append (f a) (joined f l) ∙ ap (λ n. length (f a) + n) (length-joined f l)
 
   -- a filter of what a function gives
   pub filter-map : (p : B → Bool) (g : A → B) (l : List A) → filter p (map g l) ≡ map g (filter (λ z. p (g z)) l)

@@ -14,29 +14,11 @@ use lib.ListN.{length, getD, take, drop, length-append, length-map, List·getD-a
 use lib.Seq.{split-at, getD-append-add}
 use Rattle.definitions.specs.Lists.{put, filter, total}
 use Rattle.definitions.specs.Words.{Word, Letters, Mer, letters, words}
-use Rattle.laws.specs.Filters.{joined, filter-split}
+use Rattle.laws.specs.Filters.{joined, filter-none, length-joined, filter-split}
+use Rattle.laws.specs.Counting.{filter-cong}
 use Rattle.laws.specs.Tests.{and-l, and-r, and-i, test-ext}
 
 -- ---- tests over all words
-
-joined-agree : {A : Type 0} (f g : ℕ → List A) → ((a : ℕ) → a < 4 → f a ≡ g a) → (ls : List ℕ) → Letters ls → joined f ls ≡ joined g ls
-joined-agree f g h [] d = refl
-joined-agree f g h (a ∷ ls) d = rw (h a (d .0), joined-agree f g h ls (d .1))
-
-letters-four : Letters letters
-letters-four = omega arith
-
--- tests that agree on the words of n letters choose the same of them
-pub filter-agree : (p q : Word → Bool) (n : ℕ) → ((z : Word) → Mer n z → p z ≡ q z) → filter p (words n) ≡ filter q (words n)
-filter-agree p q zero h = ap (λ (t : Bool). put t [] []) (h [] (refl, tt))
-filter-agree p q (suc n) h =
-    filter-split p n
-    ∙ joined-agree _ _ (λ a l. ap (map (λ (z : Word). a ∷ z)) (filter-agree (λ z. p (a ∷ z)) (λ z. q (a ∷ z)) n (λ z m. h (a ∷ z) (ap suc (m .0), (l, m .1))))) letters letters-four
-    ∙ sym (filter-split q n)
-
-filter-none : (l : List Word) → filter (λ z. false) l ≡ []
-filter-none [] = refl
-filter-none (a ∷ l) = filter-none l
 
 filter-and : (t : Bool) (p : Word → Bool) (l : List Word) → filter (λ z. t && p z) l ≡ cond t (filter p l) []
 filter-and true p l = refl
@@ -59,9 +41,8 @@ length-cond : (t : Bool) (l : List Word) → length (cond t l []) ≡ cond t (le
 length-cond true l = refl
 length-cond false l = refl
 
-length-joined : (F : ℕ → List Word) (ls : List ℕ) → length (joined (λ a. map (λ (z : Word). a ∷ z) (F a)) ls) ≡ total (map (λ a. length (F a)) ls)
-length-joined F [] = refl
-length-joined F (a ∷ ls) = rw (length-append, length-map, length-joined F ls)
+length-begun : (F : ℕ → List Word) (ls : List ℕ) → length (joined (λ a. map (λ (z : Word). a ∷ z) (F a)) ls) ≡ total (map (λ a. length (F a)) ls)
+length-begun F ls = length-joined (λ a. map (λ (z : Word). a ∷ z) (F a)) ls ∙ simp length-map
 
 -- ---- choosing a letter by counts
 
@@ -224,7 +205,7 @@ module _ {S : Type 0} (ok : S → ℕ → ℕ → Bool) (step : S → ℕ → S)
     where
       one : (a : ℕ) → filter (λ z. accepts s (a ∷ z)) (words n) ≡ rest s n a
       one a =
-          filter-agree (λ z. accepts s (a ∷ z)) (λ z. ok s n a && accepts (step s a) z) n (λ z m. ap (λ (i : ℕ). ok s i a && accepts (step s a) z) (m .0))
+          filter-cong (λ z. accepts s (a ∷ z)) (λ z. ok s n a && accepts (step s a) z) n (λ z m. ap (λ (i : ℕ). ok s i a && accepts (step s a) z) (m .0))
           ∙ filter-and (ok s n a) (accepts (step s a)) (words n)
 
   rest-count : (s : S) (n a : ℕ) → ways (step s a) n ≡ length (filter (accepts (step s a)) (words n)) → length (rest s n a) ≡ branch s n a
@@ -234,7 +215,7 @@ module _ {S : Type 0} (ok : S → ℕ → ℕ → Bool) (step : S → ℕ → S)
   pub ways-count : (s : S) (n : ℕ) → ways s n ≡ length (filter (accepts s) (words n))
   ways-count s zero = length-put (end s)
   ways-count s (suc n) =
-      sym (ap length (accepts-split s n) ∙ length-joined (rest s n) letters ∙ ap (λ (c : ℕ → ℕ). total (map c letters)) (fun-ext (λ a. rest-count s n a (ways-count (step s a) n))))
+      sym (ap length (accepts-split s n) ∙ length-begun (rest s n) letters ∙ ap (λ (c : ℕ → ℕ). total (map c letters)) (fun-ext (λ a. rest-count s n a (ways-count (step s a) n))))
 
   -- the accepted word of n letters at a place
   abbrev pub wordAt : S → ℕ → ℕ → Word
@@ -384,7 +365,7 @@ module _ {S S′ : Type 0} (ok : S → ℕ → ℕ → Bool) (step : S → ℕ �
       ap₂ _&&_ (oks s (length z) a i (l .0)) (run-cong (step s a) z (l .1) (kept s a i (l .0)) ∙ ap (λ (t : S′). accepts ok′ step′ end′ t z) (steps s a i (l .0)))
 
   filter-run : (s : S) (n : ℕ) → I s → filter (accepts ok step end s) (words n) ≡ filter (accepts ok′ step′ end′ (c s)) (words n)
-  filter-run s n i = filter-agree (accepts ok step end s) (accepts ok′ step′ end′ (c s)) n (λ z m. run-cong s z (m .1) i)
+  filter-run s n i = filter-cong (accepts ok step end s) (accepts ok′ step′ end′ (c s)) n (λ z m. run-cong s z (m .1) i)
 
   -- its table is that of the image
   pub ways-cong : (s : S) (n : ℕ) → I s → ways ok step end s n ≡ ways ok′ step′ end′ (c s) n
