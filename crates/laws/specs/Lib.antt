@@ -1,4 +1,5 @@
 pub mod Tests
+pub mod Places
 pub mod Filters
 pub mod Numbers
 pub mod Minima

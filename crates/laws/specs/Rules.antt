@@ -15,11 +15,12 @@ use Rattle.definitions.specs.Lists.{total}
 use Rattle.definitions.specs.Words.{Word, Letters, letters, val, same}
 use Rattle.definitions.specs.Vigemins.{value}
 use Rattle.laws.specs.Tests.{and-l, and-r, and-i, and-cong, test-ext, contrary, same-eq, same-refl}
+use Rattle.laws.specs.Places.{anyTo, anyTo-cong, anyTo-last, anyTo-there, anyTo-down, anyTo-stop, firstTo, firstTo-le, firstTo-is, firstTo-none, firstTo-holds, firstTo-before}
 use Rattle.laws.specs.Numbers.{high-less, number-append}
 use Rattle.laws.specs.Minima.{letters-take, letters-drop}
 use Rattle.laws.specs.Orders.{Ranking, OneToOne, ranked, rankedFrom, letter-at, rank-same, value-one}
 use Rattle.laws.specs.States.{matches, first, next, matches-all, matches-short, longest-matches, longest-le, longest-is}
-use Rattle.laws.specs.Threads.{anyTo, anyTo-cong, anyTo-last, anyTo-find, anyTo-there, bad}
+use Rattle.laws.specs.Threads.{bad}
 use Rattle.laws.specs.Acceptors.{belowHit, above-not, not-or}
 use Rattle.laws.specs.Walks.{accepts, ways}
 use Rattle.laws.specs.Tables.{fine, fineAt, doneAt, allFine, allFine-match, through-fine, ways-free}
@@ -41,11 +42,6 @@ abbrev pub isEqual : Sign → Bool
 isEqual less = false
 isEqual equal = true
 isEqual greater = false
-
--- the least number below n of which a test holds; n where it holds of none
-abbrev pub firstTo : ℕ → (ℕ → Bool) → ℕ
-firstTo zero p = zero
-firstTo (suc n) p = cond (p zero) zero (suc (firstTo n (λ q. p (suc q))))
 
 module _ (ρ : Ranking) (w : Word) where
   -- the letters aj..ai of w
@@ -185,69 +181,6 @@ module _ (ρ : Ranking) (one : OneToOne ρ) (w : Word) (hw : Letters w) where
 -- whether the m-mer of w that starts at j exists in a word of n letters that t follows
 abbrev pub exists : Word → Word → ℕ → ℕ → Bool
 exists w t n j = leb (length w + j) (suc (n + length t))
-
--- ---- the least number of which a test holds
-
-pub firstTo-le : (n : ℕ) (p : ℕ → Bool) → firstTo n p ≤ n
-firstTo-le zero p = omega arith
-firstTo-le (suc n) p = go (p zero) (firstTo-le n (λ q. p (suc q)))
-  where
-    go : (t : Bool) → firstTo n (λ q. p (suc q)) ≤ n → cond t zero (suc (firstTo n (λ q. p (suc q)))) ≤ suc n
-    go true h = omega arith
-    go false h = omega arith
-
--- a number at which a test holds, and below which it does not, is the least
-pub firstTo-is : (n : ℕ) (p : ℕ → Bool) (q : ℕ) → q < n → p q ≡ true → ((l : ℕ) → l < q → p l ≡ false) → firstTo n p ≡ q
-firstTo-is zero p q h e low = absurd (not-suc-le-zero h)
-firstTo-is (suc n) p zero h e low = ap (λ (t : Bool). cond t zero (suc (firstTo n (λ q. p (suc q))))) e
-firstTo-is (suc n) p (suc q) h e low =
-    ap₂ (λ (t : Bool) (k : ℕ). cond t zero (suc k)) (low zero (omega arith)) (firstTo-is n (λ l. p (suc l)) q (le-of-suc-le-suc h) e (λ l k. low (suc l) (omega arith)))
-
-pub firstTo-none : (n : ℕ) (p : ℕ → Bool) → ((l : ℕ) → l < n → p l ≡ false) → firstTo n p ≡ n
-firstTo-none zero p h = refl
-firstTo-none (suc n) p h = ap₂ (λ (t : Bool) (k : ℕ). cond t zero (suc k)) (h zero (omega arith)) (firstTo-none n (λ l. p (suc l)) (λ l k. h (suc l) (omega arith)))
-
-firstTo-holds : (n : ℕ) (p : ℕ → Bool) → firstTo n p < n → p (firstTo n p) ≡ true
-firstTo-holds zero p h = absurd (not-suc-le-zero h)
-firstTo-holds (suc n) p h = go (p zero) refl h (λ k. firstTo-holds n (λ q. p (suc q)) k)
-  where
-    go : (t : Bool) → p zero ≡ t → cond t zero (suc (firstTo n (λ q. p (suc q)))) < suc n → (firstTo n (λ q. p (suc q)) < n → p (suc (firstTo n (λ q. p (suc q)))) ≡ true)
-        → p (cond t zero (suc (firstTo n (λ q. p (suc q))))) ≡ true
-    go true e k rec = e
-    go false e k rec = rec (le-of-suc-le-suc k)
-
-firstTo-before : (n : ℕ) (p : ℕ → Bool) (q : ℕ) → q < firstTo n p → p q ≡ false
-firstTo-before zero p q h = absurd (not-suc-le-zero h)
-firstTo-before (suc n) p q h = go (p zero) refl q h (λ l k. firstTo-before n (λ i. p (suc i)) l k)
-  where
-    go : (t : Bool) → p zero ≡ t → (l : ℕ) → l < cond t zero (suc (firstTo n (λ i. p (suc i)))) → ((k : ℕ) → k < firstTo n (λ i. p (suc i)) → p (suc k) ≡ false) → p l ≡ false
-    go true e l k rec = absurd (not-suc-le-zero k)
-    go false e zero k rec = e
-    go false e (suc l) k rec = rec l (le-of-suc-le-suc k)
-
-pub firstTo-cong : (n : ℕ) (p q : ℕ → Bool) → ((l : ℕ) → l < n → p l ≡ q l) → firstTo n p ≡ firstTo n q
-firstTo-cong zero p q h = refl
-firstTo-cong (suc n) p q h = ap₂ (λ (t : Bool) (k : ℕ). cond t zero (suc k)) (h zero (omega arith)) (firstTo-cong n (λ l. p (suc l)) (λ l. q (suc l)) (λ l k. h (suc l) (omega arith)))
-
--- going through the numbers below n from above
-anyTo-down : (n : ℕ) (p : ℕ → Bool) → anyTo n (λ q. p (n - suc q)) ≡ anyTo n p
-anyTo-down n p =
-    test-ext (anyTo n (λ q. p (n - suc q))) (anyTo n p)
-    (λ e. let r = anyTo-find n (λ q. p (n - suc q)) e in anyTo-there n p (n - suc (r .0)) (omega (arith, r .1)) (r .2))
-    (λ e. let r = anyTo-find n p e in
-    anyTo-there n (λ q. p (n - suc q)) (n - suc (r .0)) (omega (arith, r .1))
-    (ap p (let k : r .0 < n = r .1 in let q : n - suc (n - suc (r .0)) ≡ r .0 = omega arith in q) ∙ r .2))
-
--- a test that fails from i on is tried below i alone
-anyTo-stop : (i n : ℕ) (p : ℕ → Bool) → i ≤ n → ((l : ℕ) → i ≤ l → l < n → p l ≡ false) → anyTo n p ≡ anyTo i p
-anyTo-stop i n p h none =
-    test-ext (anyTo n p) (anyTo i p)
-    (λ e. let r = anyTo-find n p e in go (r .0) (r .1) (r .2) (leb i (r .0)) refl)
-    (λ e. let r = anyTo-find i p e in anyTo-there n p (r .0) (omega (arith, r .1)) (r .2))
-  where
-    go : (l : ℕ) → l < n → p l ≡ true → (t : Bool) → leb i l ≡ t → anyTo i p ≡ true
-    go l k e true q = absurd (contrary (p l) e (none l (leb-true i l q) k))
-    go l k e false q = anyTo-there i p l (leb-false i l q) e
 
 leb-cong : (a b c d : ℕ) → (a ≤ b → c ≤ d) → (c ≤ d → a ≤ b) → leb a b ≡ leb c d
 leb-cong a b c d f g = test-ext (leb a b) (leb c d) (λ e. le-leb c d (f (leb-true a b e))) (λ e. le-leb a b (g (leb-true c d e)))

@@ -23,7 +23,8 @@ use Rattle.laws.specs.Counting.{count, filter-cong, count-cong, count-no
 use Rattle.laws.specs.Walks.{accepts, ways, ways-count}
 use Rattle.laws.specs.Orders.{Ranking, OneToOne, ranked, value-one}
 use Rattle.laws.specs.States.{matches, first, longest, state, next, longest-matches, longest-max, longest-le, matches-first, matches-short, state-matches, state-step, state-first, next-le}
-use Rattle.laws.specs.Threads.{anyTo, anyTo-cong, anyTo-last, anyTo-find, anyTo-there, caught, oldCaught, newCaught, bad, run, threads-new, anyTo-never}
+use Rattle.laws.specs.Places.{anyTo, anyTo-cong, anyTo-never, anyTo-last, anyTo-find, anyTo-there}
+use Rattle.laws.specs.Threads.{caught, oldCaught, newCaught, bad, run, threads-new}
 use Rattle.laws.specs.Acceptors.{belowHit, not-or, postmer-threads, antemer-threads, holds-threads}
 
 -- ---- beginnings

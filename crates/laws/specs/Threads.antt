@@ -15,52 +15,8 @@ use lib.ListN.{length, getD, drop, length-append}
 use lib.Seq.{drop-cons, drop-length}
 use Rattle.definitions.specs.Words.{Word}
 use Rattle.laws.specs.Tests.{or-l, or-r, or-cases, contrary}
+use Rattle.laws.specs.Places.{anyTo, anyTo-cong, anyTo-never, anyTo-last, anyTo-or}
 use Rattle.laws.specs.States.{matches, first, state, state-matches}
-
--- ---- some place below n
-
--- whether a test holds of some number below n
-abbrev pub anyTo : ℕ → (ℕ → Bool) → Bool
-anyTo zero p = false
-anyTo (suc n) p = p zero || anyTo n (λ l. p (suc l))
-
-pub anyTo-cong : (n : ℕ) {p q : ℕ → Bool} → ((l : ℕ) → l < n → p l ≡ q l) → anyTo n p ≡ anyTo n q
-anyTo-cong zero h = refl
-anyTo-cong (suc n) h = ap₂ (λ (s t : Bool). s || t) (h zero (omega arith)) (anyTo-cong n (λ l k. h (suc l) (omega arith)))
-
-pub anyTo-never : (n : ℕ) → anyTo n (λ l. false) ≡ false
-anyTo-never zero = refl
-anyTo-never (suc n) = anyTo-never n
-
-pub anyTo-last : (n : ℕ) (p : ℕ → Bool) → anyTo (suc n) p ≡ (anyTo n p || p n)
-anyTo-last zero p = or-false (p zero)
-anyTo-last (suc n) p = ap (λ (t : Bool). p zero || t) (anyTo-last n (λ l. p (suc l))) ∙ sym (or-assoc (p zero) (anyTo n (λ l. p (suc l))) (p (suc n)))
-
-pub anyTo-or : (n : ℕ) (p q : ℕ → Bool) → anyTo n (λ l. p l || q l) ≡ (anyTo n p || anyTo n q)
-anyTo-or zero p q = refl
-anyTo-or (suc n) p q = ap (λ (t : Bool). p zero || q zero || t) (anyTo-or n (λ l. p (suc l)) (λ l. q (suc l))) ∙ exchange (p zero) (q zero) (anyTo n (λ l. p (suc l))) (anyTo n (λ l. q (suc l)))
-  where
-    exchange : (a b c d : Bool) → (a || b || (c || d)) ≡ (a || c || (b || d))
-    exchange true b c d = refl
-    exchange false true true d = refl
-    exchange false true false d = refl
-    exchange false false c d = refl
-
--- a test that holds of some number below n is found there
-pub anyTo-find : (n : ℕ) (p : ℕ → Bool) → anyTo n p ≡ true → (l : ℕ) × (l < n) × (p l ≡ true)
-anyTo-find zero p e = absurd (contrary false e refl)
-anyTo-find (suc n) p e = go (or-cases (p zero) (anyTo n (λ l. p (suc l))) e) (λ k. anyTo-find n (λ l. p (suc l)) k)
-  where
-    go : (p zero ≡ true) ⊎ (anyTo n (λ l. p (suc l)) ≡ true) → (anyTo n (λ l. p (suc l)) ≡ true → (l : ℕ) × (l < n) × (p (suc l) ≡ true))
-        → (l : ℕ) × (l < suc n) × (p l ≡ true)
-    go (inl a) rec = (zero, omega arith, a)
-    go (inr b) rec = let r = rec b in (suc (r .0), omega (arith, r .1), r .2)
-
--- and makes the whole hold
-pub anyTo-there : (n : ℕ) (p : ℕ → Bool) (l : ℕ) → l < n → p l ≡ true → anyTo n p ≡ true
-anyTo-there zero p l h e = absurd (not-suc-le-zero h)
-anyTo-there (suc n) p zero h e = or-l (p zero) (anyTo n (λ l. p (suc l))) e
-anyTo-there (suc n) p (suc l) h e = or-r (p zero) (anyTo n (λ l. p (suc l))) (anyTo-there n (λ l. p (suc l)) l (le-of-suc-le-suc h) e)
 
 -- ---- threads
 
