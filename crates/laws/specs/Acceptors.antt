@@ -2,7 +2,7 @@
 -- beside w finds.
 -- Assumes nothing.
 use Prim.Native.Nat.{ℕ, zero, suc, _+_, _≤_, _<_}
-use mathlib.Core.Bool.{Bool, true, false, not, _&&_, _||_, and-true, or-false}
+use mathlib.Core.Bool.{Bool, true, false, not, _&&_, _||_, and-true, and-false, or-false}
 use mathlib.Core.List.{List, [], _∷_, _++_, append-nil}
 use mathlib.Core.Path.{_≡_, refl, sym, ap, ap₂, _∙_}
 use native.Mathlib.Nat.{zero-add, add-zero}
@@ -16,31 +16,11 @@ use Rattle.definitions.specs.Lists.{put, all}
 use Rattle.definitions.specs.Words.{Word, Letters, val, same}
 use Rattle.definitions.specs.Vigemins.{value, below, above, windows}
 use Rattle.definitions.specs.Shelves.{antemer, postmer}
-use Rattle.laws.specs.Tests.{and-r, and-i, test-ext, contrary, same-eq}
+use Rattle.laws.specs.Tests.{and-r, and-i, not-or, not-and, test-ext, same-eq}
+use Rattle.laws.specs.Numbers.{letters-take, letters-append}
 use Rattle.laws.specs.Filters.{any}
 use Rattle.laws.specs.Orders.{Ranking, OneToOne, ranked, rankedFrom, atMost, ranked-atMost}
 use Rattle.laws.specs.Threads.{caught, newCaught}
-
-and-false : (a : Bool) → (a && false) ≡ false
-and-false true = refl
-and-false false = refl
-
-pub not-or : (a b : Bool) → not (a || b) ≡ (not a && not b)
-not-or true b = refl
-not-or false b = refl
-
-pub not-and : (a b : Bool) → not (a && b) ≡ (not a || not b)
-not-and true b = refl
-not-and false b = refl
-
-letters-take : (n : ℕ) (z : Word) → Letters z → Letters (take n z)
-letters-take zero z h = tt
-letters-take (suc n) [] h = tt
-letters-take (suc n) (a ∷ z) h = (h .0, letters-take n z (h .1))
-
-letters-append : (u v : Word) → Letters u → Letters v → Letters (u ++ v)
-letters-append [] v hu hv = hv
-letters-append (a ∷ u) v hu hv = (hu .0, letters-append u v (hu .1) hv)
 
 all-put : {A : Type 0} (p : A → Bool) (t : Bool) (a : A) (l : List A) → all p (put t a l) ≡ ((not t || p a) && all p l)
 all-put p true a l = refl

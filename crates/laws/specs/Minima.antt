@@ -15,6 +15,7 @@ use Rattle.definitions.specs.Lists.{put, all}
 use Rattle.definitions.specs.Words.{Word, Letters, Mer, same}
 use Rattle.definitions.specs.Vigemins.{Form, value, below, windows, leastPlace, vigeminAt, vigemin}
 use Rattle.laws.specs.Tests.{and-l, and-r, and-i, or-l, or-r, or-cases, test-ext, contrary, same-eq, same-refl}
+use Rattle.laws.specs.Numbers.{letters-take, letters-drop}
 use Rattle.laws.specs.Filters.{any}
 
 -- ---- tests over a list, by places
@@ -247,18 +248,6 @@ windows-take n x q h =
         let c : i < suc q - n = omega arith in
         let whole : getD (windows n x) i [] ≡ take n (drop i x) = window-at n x i (omega arith) in
         rw (getD-take (suc q - n) (windows n x) i [] c, whole, window-at n (take q x) i (rw length-take (omega arith)), stretch-take i n q x (omega arith))
-
--- the front of a word has letters alone
-pub letters-take : (n : ℕ) (x : Word) → Letters x → Letters (take n x)
-letters-take zero x h = tt
-letters-take (suc n) [] h = tt
-letters-take (suc n) (a ∷ x) h = (h .0, letters-take n x (h .1))
-
--- a word from a place on has letters alone
-pub letters-drop : (p : ℕ) (x : Word) → Letters x → Letters (drop p x)
-letters-drop zero x h = h
-letters-drop (suc p) [] h = tt
-letters-drop (suc p) (a ∷ x) h = letters-drop p x (h .1)
 
 -- n letters from a place inside are an n-mer
 pub stretch-mer : (n : ℕ) (x : Word) (p : ℕ) → p + n ≤ length x → Letters x → Mer n (take n (drop p x))

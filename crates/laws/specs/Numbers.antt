@@ -141,6 +141,31 @@ pub number-less : (b a c : ℕ) (u v : List ℕ) → Digits b u → Digits b v �
 number-less b a c u v hu hv e =
     rw (← e) (high-less (b ^ length u) a c (number b u) (number b v) (number-lt b u hu) (rw e (number-lt b v hv)))
 
+-- ---- the letters of parts of words
+
+-- the front of a word has letters alone
+pub letters-take : (n : ℕ) (x : Word) → Letters x → Letters (take n x)
+letters-take zero x h = tt
+letters-take (suc n) [] h = tt
+letters-take (suc n) (a ∷ x) h = (h .0, letters-take n x (h .1))
+
+-- a word from a place on has letters alone
+pub letters-drop : (p : ℕ) (x : Word) → Letters x → Letters (drop p x)
+letters-drop zero x h = h
+letters-drop (suc p) [] h = tt
+letters-drop (suc p) (a ∷ x) h = letters-drop p x (h .1)
+
+-- two words in a row have letters alone
+pub letters-append : (u v : Word) → Letters u → Letters v → Letters (u ++ v)
+letters-append [] v hu hv = hv
+letters-append (a ∷ u) v hu hv = (hu .0, letters-append u v (hu .1) hv)
+
+-- at each place of a word stands a letter; past its end the letter A, which is 0, is read
+pub letter-at : (x : Word) (p : ℕ) → Letters x → getD x p 0 < 4
+letter-at [] p h = omega arith
+letter-at (a ∷ x) zero h = h .0
+letter-at (a ∷ x) (suc p) h = letter-at x p (h .1)
+
 -- ---- the sum of letters
 
 -- a test that holds of every entry of a table of f holds of f i, for each i in it

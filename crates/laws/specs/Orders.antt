@@ -14,7 +14,7 @@ use borrow.Author.Tests.{eqb-true, eq-eqb}
 use Rattle.definitions.specs.Words.{Word, Digits, Letters, sum, _⊕_, val, number}
 use Rattle.definitions.specs.Vigemins.{Form, keyed, value, below, above}
 use Rattle.laws.specs.Tests.{and-l, and-r, and-i, test-ext}
-use Rattle.laws.specs.Numbers.{number-lt, number-less, sum-lt, sum-cancel, sum-zero}
+use Rattle.laws.specs.Numbers.{number-lt, number-less, letter-at, sum-lt, sum-cancel, sum-zero}
 
 -- for each place the rank of each letter
 abbrev pub Ranking : Type 0
@@ -57,11 +57,6 @@ keyed-at (c ∷ key) (a ∷ v) = ap (λ (y : Word). sum a c ∷ y) (keyed-at key
 -- the keyed form goes letter by letter
 pub keyed-ranked : (key : Word) → keyed key ≡ ranked (keyRanking key)
 keyed-ranked key = fun-ext (keyed-at key)
-
-pub letter-at : (key : Word) (p : ℕ) → Letters key → getD key p zero < 4
-letter-at [] p h = omega arith
-letter-at (c ∷ key) zero h = h .0
-letter-at (c ∷ key) (suc p) h = letter-at key p (h .1)
 
 -- and is one-to-one at each place
 pub keyed-one-to-one : (key : Word) → Letters key → OneToOne (keyRanking key)

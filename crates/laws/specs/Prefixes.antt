@@ -15,7 +15,7 @@ use lib.Seq.{length-take-le}
 use Rattle.definitions.specs.Lists.{total}
 use Rattle.definitions.specs.Words.{Word, Letters, Mer, letters, same}
 use Rattle.laws.specs.Tests.{and-r, or-cases, test-ext}
-use Rattle.laws.specs.Minima.{letters-take}
+use Rattle.laws.specs.Numbers.{letters-take}
 use Rattle.laws.specs.Counting.{count, count-split, count-cong, count-none, count-either, count-first}
 use Rattle.laws.specs.Walks.{accepts, ways, ways-count}
 use Rattle.laws.specs.States.{next}

@@ -14,14 +14,13 @@ use lib.Seq.{take-suc, length-take-le, drop-append-le}
 use Rattle.definitions.specs.Lists.{total}
 use Rattle.definitions.specs.Words.{Word, Letters, letters, val, same}
 use Rattle.definitions.specs.Vigemins.{value}
-use Rattle.laws.specs.Tests.{and-l, and-r, and-i, and-cong, test-ext, contrary, same-eq, same-refl}
+use Rattle.laws.specs.Tests.{not-or, and-l, and-r, and-i, and-cong, test-ext, contrary, same-eq, same-refl}
 use Rattle.laws.specs.Places.{anyTo, anyTo-cong, anyTo-last, anyTo-there, anyTo-down, anyTo-stop, firstTo, firstTo-le, firstTo-is, firstTo-none, firstTo-holds, firstTo-before}
-use Rattle.laws.specs.Numbers.{high-less, number-append}
-use Rattle.laws.specs.Minima.{letters-take, letters-drop}
-use Rattle.laws.specs.Orders.{Ranking, OneToOne, ranked, rankedFrom, letter-at, rank-same, value-one}
+use Rattle.laws.specs.Numbers.{high-less, number-append, letters-take, letters-drop, letter-at}
+use Rattle.laws.specs.Orders.{Ranking, OneToOne, ranked, rankedFrom, rank-same, value-one}
 use Rattle.laws.specs.States.{matches, first, next, matches-all, matches-short, longest-matches, longest-le, longest-is}
 use Rattle.laws.specs.Threads.{bad}
-use Rattle.laws.specs.Acceptors.{belowHit, above-not, not-or}
+use Rattle.laws.specs.Acceptors.{belowHit, above-not}
 use Rattle.laws.specs.Walks.{accepts, ways}
 use Rattle.laws.specs.Tables.{fine, fineAt, doneAt, allFine, allFine-match, through-fine, ways-free}
 use Rattle.laws.specs.Prefixes.{goesOn, sharing, sharingFrom, clean, completions, prefix-rule}

@@ -16,7 +16,7 @@ use Rattle.definitions.specs.Lists.{filter, total}
 use Rattle.definitions.specs.Words.{Word, Letters, Mer, letters, words, same}
 use Rattle.definitions.specs.Vigemins.{windows, vigemin}
 use Rattle.definitions.specs.Shelves.{shelf, antemer, postmer, begins, antemers, postmers}
-use Rattle.laws.specs.Tests.{and-l, and-r, and-i, and-cong, or-l, or-r, or-cases, test-ext, contrary, same-eq}
+use Rattle.laws.specs.Tests.{not-or, and-l, and-r, and-i, and-cong, or-l, or-r, or-cases, test-ext, contrary, same-eq}
 use Rattle.laws.specs.Filters.{any}
 use Rattle.laws.specs.Minima.{windows-mer, vigemin-is}
 use Rattle.laws.specs.Counting.{count, filter-cong, count-cong, count-none, count-first}
@@ -25,7 +25,7 @@ use Rattle.laws.specs.Orders.{Ranking, OneToOne, ranked, value-one}
 use Rattle.laws.specs.States.{matches, first, longest, state, next, longest-matches, longest-max, longest-le, matches-first, matches-short, state-matches, state-step, state-first, next-le}
 use Rattle.laws.specs.Places.{anyTo, anyTo-cong, anyTo-never, anyTo-last, anyTo-find, anyTo-there}
 use Rattle.laws.specs.Threads.{caught, oldCaught, newCaught, bad, run, threads-new}
-use Rattle.laws.specs.Acceptors.{belowHit, not-or, postmer-threads, antemer-threads, holds-threads}
+use Rattle.laws.specs.Acceptors.{belowHit, postmer-threads, antemer-threads, holds-threads}
 
 -- ---- beginnings
 
