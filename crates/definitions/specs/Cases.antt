@@ -1,6 +1,6 @@
 -- The table of document 01: cases W1 to W12 as data, a test of one case against the definitions, and one claim of the whole table.
 -- Assumes nothing.
-use Prim.Native.Nat.{ℕ, _^_}
+use Prim.Native.Nat.{ℕ}
 use mathlib.Core.Bool.{Bool, true, _&&_}
 use mathlib.Core.List.{List, [], _∷_, _++_, map}
 use mathlib.Core.Path.{_≡_, refl}

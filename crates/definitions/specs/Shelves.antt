@@ -1,7 +1,7 @@
 -- Shelves, their pages, and the counts behind their sizes (document 01, "Words and order" and "Pages and scans"; source 000,
 -- sections 2.1 to 2.3). The word w has m letters; a key enters by the form alone.
 -- Assumes nothing.
-use Prim.Native.Nat.{ℕ, zero, suc, _+_}
+use Prim.Native.Nat.{ℕ, zero, _+_}
 use mathlib.Core.Bool.{Bool, true, false, not, _&&_}
 use mathlib.Core.List.{List, _++_}
 use lib.Dec.{leb}

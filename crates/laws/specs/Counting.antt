@@ -10,10 +10,10 @@ use mathlib.Core.Logic.{⊎-elim, _↔_}
 use mathlib.Core.Path.{_≡_, refl, sym, ap, ap₂, _∙_, subst, fun-ext}
 use borrow.Author.Tests.{ltb-true}
 use lib.Dec.{ltb, eqb}
-use lib.ListN.{length, getD, take, drop, length-append, length-map}
+use lib.ListN.{length, getD, take, drop, length-map}
 use Rattle.definitions.specs.Lists.{put, filter, tabulate, total}
 use Rattle.definitions.specs.Words.{Word, Letters, Mer, letters, spread, words, same, val}
-use Rattle.laws.specs.Filters.{joined, filter-sound, filter-complete, filter-agree, filter-every, filter-none, filter-le, length-either, length-joined, filter-split}
+use Rattle.laws.specs.Filters.{filter-sound, filter-complete, filter-agree, filter-every, filter-none, filter-le, length-either, length-joined, filter-split}
 
 -- ---- lists
 

@@ -14,13 +14,13 @@ use Rattle.definitions.specs.Words.{Word, Letters, Mer, letters, same}
 use Rattle.definitions.specs.Vigemins.{vigemin}
 use Rattle.definitions.specs.Shelves.{shelf, size}
 use Rattle.laws.specs.Tests.{or-l, same-refl}
-use Rattle.laws.specs.Walks.{accepts, ways, ways-count, ways-cong, wordAt, word-at, placeAt, place-at, place-word, nextAt, next-at, next-none}
+use Rattle.laws.specs.Walks.{accepts, ways-count, ways-cong, wordAt, word-at, placeAt, place-at, place-word, nextAt, next-at, next-none}
 use Rattle.laws.specs.Orders.{Ranking, OneToOne, ranked}
 use Rattle.laws.specs.States.{matches, first, next, matches-all}
 use Rattle.laws.specs.Places.{anyTo, anyTo-there}
 use Rattle.laws.specs.Threads.{caught}
 use Rattle.laws.specs.Acceptors.{belowHit}
-use Rattle.laws.specs.Tables.{shelfOk, shelfStep, shelfEnd, shelfWays, shelf-accepted, shelf-table, postmerOk, postmerEnd, postmerWays, postmer-end, antemerOk, antemerEnd, antemerWays}
+use Rattle.laws.specs.Tables.{shelfOk, shelfStep, shelfEnd, shelfWays, shelf-accepted, shelf-table, postmerOk, postmerEnd, postmerWays, postmer-end, antemerOk, antemerWays}
 
 module _ (ρ : Ranking) (w : Word) where
   -- the k-mer at place r, the place of a k-mer, and the next k-mer, each from the table

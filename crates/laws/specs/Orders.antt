@@ -2,17 +2,17 @@
 -- letter by letter. All laws of shelves are proved over these.
 -- Assumes nothing.
 use Prim.Native.Nat.{ℕ, zero, suc, _+_, _*_, _/_, _%_, _^_, _<_}
-use mathlib.Core.Bool.{Bool, true, false, not, _&&_, _||_}
+use mathlib.Core.Bool.{Bool, true, false, _&&_, _||_}
 use mathlib.Core.List.{List, [], _∷_}
 use mathlib.Core.Path.{_≡_, refl, sym, ap, ap₂, _∙_, fun-ext}
 use native.Mathlib.Nat.{suc-inj}
 use native.Mathlib.Omega.{arith}
 use lib.Arith.{digits-div, digits-mod}
-use lib.Dec.{ltb, eqb, leb}
-use lib.ListN.{length, getD, take}
+use lib.Dec.{ltb, eqb}
+use lib.ListN.{length, getD}
 use borrow.Author.Tests.{eqb-true, eq-eqb}
 use Rattle.definitions.specs.Words.{Word, Digits, Letters, sum, _⊕_, val, number}
-use Rattle.definitions.specs.Vigemins.{Form, keyed, value, below, above}
+use Rattle.definitions.specs.Vigemins.{Form, keyed, value}
 use Rattle.laws.specs.Tests.{and-l, and-r, and-i, test-ext}
 use Rattle.laws.specs.Numbers.{number-lt, number-less, letter-at, sum-lt, sum-cancel, sum-zero}
 

@@ -1,14 +1,14 @@
 -- Words that pass a test, by how many first letters they share with w (document 01 splits antemers and postmers so): the counts by
 -- states, for any acceptor that steps by the states of w.
 -- Assumes nothing.
-use Prim.Native.Nat.{ℕ, zero, suc, _+_, _-_, _≤_, _<_}
+use Prim.Native.Nat.{ℕ, zero, suc, _+_, _≤_, _<_}
 use mathlib.Core.Bool.{Bool, true, false, cond, not, _&&_, _||_, and-true, and-false, and-assoc, and-comm, and-or-distrib-left}
 use mathlib.Core.List.{[], _∷_, map, append-nil}
 use mathlib.Core.Logic.{⊎-elim}
-use mathlib.Core.Path.{_≡_, refl, sym, ap, ap₂, fun-ext, _∙_}
-use native.Mathlib.Nat.{zero-add, add-zero, le-of-suc-le-suc, not-suc-le-zero}
+use mathlib.Core.Path.{_≡_, refl, sym, ap, fun-ext, _∙_}
+use native.Mathlib.Nat.{add-zero, le-of-suc-le-suc, not-suc-le-zero}
 use native.Mathlib.Omega.{arith}
-use borrow.Author.Tests.{leb-true, leb-false, le-leb, lt-leb, ltb-true, ltb-false, lt-ltb, le-ltb, eqb-true, eqb-false, eq-eqb, ne-eqb}
+use borrow.Author.Tests.{leb-true, le-leb, lt-leb, eqb-true, eqb-false}
 use lib.Dec.{ltb, leb, eqb, leb·zero, leb·suc-zero, leb·suc-suc, eqb·zero-suc, eqb·suc-zero, eqb·suc-suc}
 use lib.ListN.{length, getD, take, drop}
 use lib.Seq.{length-take-le}
@@ -16,7 +16,7 @@ use Rattle.definitions.specs.Lists.{total}
 use Rattle.definitions.specs.Words.{Word, Letters, Mer, letters, same}
 use Rattle.laws.specs.Tests.{and-r, or-cases, test-ext}
 use Rattle.laws.specs.Numbers.{letters-take}
-use Rattle.laws.specs.Counting.{count, count-split, count-cong, count-none, count-either, count-first}
+use Rattle.laws.specs.Counting.{count, count-split, count-cong, count-none, count-either}
 use Rattle.laws.specs.Walks.{accepts, ways, ways-count}
 use Rattle.laws.specs.States.{next}
 use Rattle.laws.specs.Tables.{through, accepts-append, count-begun, count-begun-by, count-fixed, after-prefix}

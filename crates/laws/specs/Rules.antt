@@ -5,9 +5,9 @@ use Prim.Native.Nat.{ℕ, zero, suc, _+_, _-_, _*_, _≤_, _<_}
 use mathlib.Core.Bool.{Bool, true, false, cond, not, _&&_, _||_, and-true, and-false, or-false, and-assoc, and-comm, Bool·not-not}
 use mathlib.Core.List.{[], _∷_, _++_, map}
 use mathlib.Core.Path.{_≡_, refl, sym, ap, ap₂, _∙_}
-use native.Mathlib.Nat.{zero-add, add-zero, suc-add, add-suc, suc-inj, not-suc-le-zero, le-of-suc-le-suc}
+use native.Mathlib.Nat.{zero-add, add-zero, suc-add, add-suc, suc-inj, not-suc-le-zero}
 use native.Mathlib.Omega.{arith}
-use borrow.Author.Tests.{ltb-true, ltb-false, lt-ltb, le-ltb, leb-true, leb-false, le-leb, lt-leb, eqb-true, eqb-false, eq-eqb, not-true, not-false}
+use borrow.Author.Tests.{ltb-true, ltb-false, lt-ltb, le-ltb, leb-true, leb-false, le-leb, lt-leb, eqb-true, eq-eqb, not-true, not-false}
 use lib.Dec.{ltb, leb, eqb}
 use lib.ListN.{length, getD, take, drop, length-drop, drop-of-length-le}
 use lib.Seq.{take-suc, length-take-le, drop-append-le}
@@ -23,7 +23,7 @@ use Rattle.laws.specs.Threads.{bad}
 use Rattle.laws.specs.Acceptors.{belowHit, above-not}
 use Rattle.laws.specs.Walks.{accepts, ways}
 use Rattle.laws.specs.Tables.{fine, fineAt, doneAt, allFine, allFine-match, through-fine, ways-free}
-use Rattle.laws.specs.Prefixes.{goesOn, sharing, sharingFrom, clean, completions, prefix-rule}
+use Rattle.laws.specs.Prefixes.{goesOn, sharing, sharingFrom, completions, prefix-rule}
 
 -- how one number stands to another
 pub data Sign : Type 0 where

@@ -3,7 +3,7 @@
 -- Assumes nothing.
 use Prim.Native.Nat.{ℕ, zero, suc, _+_, _-_, _^_, _≤_, _<_}
 use mathlib.Core.Bool.{Bool, true, false, cond, not, _&&_, _||_, and-true, and-false, or-false, and-assoc, and-comm, or-assoc}
-use mathlib.Core.List.{List, [], _∷_, _++_, map}
+use mathlib.Core.List.{[], _∷_, _++_, map}
 use mathlib.Core.Logic.{⊎-elim}
 use mathlib.Core.Path.{_≡_, refl, sym, ap, ap₂, fun-ext, _∙_}
 use native.Mathlib.Nat.{zero-add, add-zero, not-suc-le-zero}
@@ -13,16 +13,15 @@ use lib.Dec.{ltb, leb, eqb}
 use lib.ListN.{length, getD, take, drop, length-append, length-drop, take-append-drop}
 use lib.Seq.{take-suc, take-length, drop-length, drop-cons}
 use Rattle.definitions.specs.Lists.{filter, total}
-use Rattle.definitions.specs.Words.{Word, Letters, Mer, letters, words, same}
+use Rattle.definitions.specs.Words.{Word, Letters, letters, words, same}
 use Rattle.definitions.specs.Vigemins.{windows, vigemin}
 use Rattle.definitions.specs.Shelves.{shelf, antemer, postmer, begins, antemers, postmers}
 use Rattle.laws.specs.Tests.{not-or, and-l, and-r, and-i, and-cong, or-l, or-r, or-cases, test-ext, contrary, same-eq}
-use Rattle.laws.specs.Filters.{any}
 use Rattle.laws.specs.Minima.{windows-mer, vigemin-is}
 use Rattle.laws.specs.Counting.{count, filter-cong, count-cong, count-none, count-first}
 use Rattle.laws.specs.Walks.{accepts, ways, ways-count}
 use Rattle.laws.specs.Orders.{Ranking, OneToOne, ranked, value-one}
-use Rattle.laws.specs.States.{matches, first, longest, state, next, longest-matches, longest-max, longest-le, matches-first, matches-short, state-matches, state-step, state-first, next-le}
+use Rattle.laws.specs.States.{matches, first, state, next, longest-matches, longest-max, longest-le, matches-first, matches-short, state-matches, state-step, state-first, next-le}
 use Rattle.laws.specs.Places.{anyTo, anyTo-cong, anyTo-never, anyTo-last, anyTo-find, anyTo-there}
 use Rattle.laws.specs.Threads.{caught, oldCaught, newCaught, bad, run, threads-new}
 use Rattle.laws.specs.Acceptors.{belowHit, postmer-threads, antemer-threads, holds-threads}

@@ -3,20 +3,16 @@
 -- going through all threads at once, letter by letter, catches what each thread by itself is caught by: postmers, antemers and
 -- the words that hold w are three cases of it.
 -- Assumes nothing.
-use Prim.Native.Nat.{ℕ, zero, suc, _+_, _≤_, _<_}
-use mathlib.Core.Bool.{Bool, true, false, not, _&&_, _||_, or-false, or-assoc}
+use Prim.Native.Nat.{ℕ, zero, suc, _+_, _<_}
+use mathlib.Core.Bool.{Bool, true, false, _&&_, _||_, or-false, or-assoc}
 use mathlib.Core.List.{[], _∷_, _++_}
 use mathlib.Core.Path.{_≡_, refl, sym, ap, ap₂, _∙_}
-use native.Mathlib.Omega.{arith}
-use mathlib.Core.Logic.{_⊎_, inl, inr}
-use native.Mathlib.Nat.{le-of-suc-le-suc, not-suc-le-zero}
 use lib.Dec.{eqb}
 use lib.ListN.{length, getD, drop, length-append}
 use lib.Seq.{drop-cons, drop-length}
 use Rattle.definitions.specs.Words.{Word}
-use Rattle.laws.specs.Tests.{or-l, or-r, or-cases, contrary}
 use Rattle.laws.specs.Places.{anyTo, anyTo-cong, anyTo-never, anyTo-last, anyTo-or}
-use Rattle.laws.specs.States.{matches, first, state, state-matches}
+use Rattle.laws.specs.States.{matches}
 
 -- ---- threads
 

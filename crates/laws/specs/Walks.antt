@@ -10,7 +10,7 @@ use native.Mathlib.Nat.{zero-add, add-sub-cancel-left}
 use native.Mathlib.Omega.{arith}
 use borrow.Author.Tests.{ltb-true, ltb-false, lt-ltb, le-ltb}
 use lib.Dec.{ltb}
-use lib.ListN.{length, getD, take, drop, length-append, length-map, List·getD-append}
+use lib.ListN.{length, getD, take, drop, length-map, List·getD-append}
 use lib.Seq.{split-at, getD-append-add}
 use Rattle.definitions.specs.Lists.{put, filter, total}
 use Rattle.definitions.specs.Words.{Word, Letters, Mer, letters, words}
