@@ -1,16 +1,16 @@
 -- The table of document 01: cases W1 to W12 as data, a test of one case against the definitions, and one claim of the whole table.
 -- Assumes nothing.
-use Prim.Native.Nat.{ℕ}
+use Prim.Native.Nat.{ℕ, _-_}
 use mathlib.Core.Bool.{Bool, true, _&&_}
 use mathlib.Core.List.{List, [], _∷_, _++_, map}
 use mathlib.Core.Path.{_≡_, refl}
 use lib.Dec.{eqb}
-use lib.ListN.{length, take}
+use lib.ListN.{length, replicate}
 use Rattle.definitions.specs.Lists.{all, tabulate}
-use Rattle.definitions.specs.Words.{Word, words, same, val, spelled, text}
+use Rattle.definitions.specs.Words.{words, same, val, spelled, text}
 use Rattle.definitions.specs.Vigemins.{keyed}
 use Rattle.definitions.specs.Shelves.{shelf}
-use Rattle.definitions.specs.Outcomes.{Counted, Worked, Paged, Scanned, sized, worked, paged, scanned, sizeAnswer, worksheetAnswer, pageAnswer, pageWritten, scanAnswer}
+use Rattle.definitions.specs.Outcomes.{sized, worked, paged, scanned, sizeAnswer, worksheetAnswer, pageAnswer, pageWritten, scanAnswer}
 
 -- the four capitals as bytes, so that a text can be read
 abbrev A : ℕ
@@ -25,7 +25,7 @@ G = 71
 abbrev T : ℕ
 T = 84
 
--- k, the key and the word, each spelled out
+-- k, and the texts of the key and of the word
 pub record Setting : Type 0 where
   pub k : ℕ
   pub key : List ℕ
@@ -37,83 +37,72 @@ at k key w = record { k = k; key = key; word = w }
 pub data Case : Type 0 where
   -- the size
   sizeIs : Setting → ℕ → Case
-  -- the first rows of the two columns
+  -- the rows of the two columns; all rows after these hold 0
   rowsAre : Setting → List ℕ → List ℕ → Case
-  -- the whole shelf, as numbers
+  -- the numbers on the whole shelf
   shelfIs : Setting → List ℕ → Case
-  -- a page: its start, the room before, the refusal, how many are written, and the room after
+  -- a page: its start, the room lent, and then the refusal, how many are written, and the room after
   pageIs : Setting → ℕ → List ℕ → ℕ → ℕ → List ℕ → Case
-  -- a scan: sequence, k, m, key (a number) and the positions
+  -- a scan: the sequence, k, m, the key's number, and then the positions
   scanIs : List ℕ → ℕ → ℕ → ℕ → List ℕ → Case
-  -- the refusal of a size: k, m, key and word (numbers)
+  -- a size: k, m, the key's number, the word's, and then the refusal
   sizeRefused : ℕ → ℕ → ℕ → ℕ → ℕ → Case
 
--- the number of a word that is spelled out
-abbrev num : List ℕ → ℕ
-num t = val (spelled t)
+-- a setting's numbers handed to an operation
+abbrev numbered : {B : Type 0} → (ℕ → ℕ → ℕ → ℕ → B) → Setting → B
+numbered f s = f (s .k) (length (s .key)) (val (spelled (s .key))) (val (spelled (s .word)))
 
--- whether a scan into a room of just its size, filled with 9, wrote these positions
-abbrev scannedRight : List ℕ → Scanned → Bool
-scannedRight ps o = eqb (o .refusal) 0 && eqb (o .place) 0 && eqb (o .windows) (length ps) && same (o .room) ps
+-- 31 rows of which these come first
+abbrev rows : List ℕ → List ℕ
+rows ns = ns ++ replicate (31 - length ns) 0
 
--- whether a worksheet begins with these rows
-abbrev workedRight : List ℕ → List ℕ → Worked → Bool
-workedRight ys zs o = eqb (o .refusal) 0 && same (take (length ys) (o .antemers)) ys && same (take (length zs) (o .postmers)) zs
-
-abbrev pagedRight : ℕ → ℕ → List ℕ → Paged → Bool
-pagedRight r n after o = eqb (o .refusal) r && eqb (o .written) n && same (o .room) after
-
-abbrev countedRight : ℕ → ℕ → Counted → Bool
-countedRight r n o = eqb (o .refusal) r && eqb (o .count) n
-
--- the test of one case
+-- the test of one case. A scan is lent one entry too many, which must stay as it was
 unfoldable pub holds : Case → Bool
 unfolding sized worked paged scanned sizeAnswer worksheetAnswer pageAnswer pageWritten scanAnswer
-holds (sizeIs s n) = countedRight 0 n (sized (s .k) (length (s .key)) (num (s .key)) (num (s .word)))
-holds (rowsAre s ys zs) = workedRight ys zs (worked (s .k) (length (s .key)) (num (s .key)) (num (s .word)))
+holds (sizeIs s n) = let o = numbered sized s in eqb (o .refusal) 0 && eqb (o .count) n
+holds (rowsAre s ante post) = let o = numbered worked s in eqb (o .refusal) 0 && same (o .antemers) (rows ante) && same (o .postmers) (rows post)
 holds (shelfIs s xs) = same (map val (shelf (keyed (spelled (s .key))) (s .k) (spelled (s .word)))) xs
-holds (pageIs s start room r n after) = pagedRight r n after (paged (s .k) (length (s .key)) (num (s .key)) (num (s .word)) start room)
-holds (scanIs t k m key ps) = scannedRight ps (scanned k m key t (map (λ (p : ℕ). 9) ps))
-holds (sizeRefused k m key w r) = countedRight r 0 (sized k m key w)
+holds (pageIs s start room r n after) =
+    let o = numbered paged s start room in
+    eqb (o .refusal) r && eqb (o .written) n && same (o .room) after
+holds (scanIs t k m key ps) =
+    let o = scanned k m key t (map (λ (p : ℕ). 9) ps ++ (9 ∷ [])) in
+    eqb (o .refusal) 0 && eqb (o .place) 0 && eqb (o .windows) (length ps) && same (o .room) (ps ++ (9 ∷ []))
+holds (sizeRefused k m key w r) = let o = sized k m key w in eqb (o .refusal) r && eqb (o .count) 0
 
--- the key of m letters that has a number, spelled out: any key below 16
-abbrev keys : List (List ℕ)
-keys = map (λ (v : Word). text v) (words 2)
-
--- W1 to W12
+-- W1 to W12. "Any key below 16" runs through all sixteen
 abbrev pub table : List Case
 table =
-    -- W1
+    -- W1: k=2, key C, words A, C, G, T: sizes 5, 7, 1, 3
     sizeIs (at 2 (C ∷ []) (A ∷ [])) 5
     ∷ sizeIs (at 2 (C ∷ []) (C ∷ [])) 7
     ∷ sizeIs (at 2 (C ∷ []) (G ∷ [])) 1
     ∷ sizeIs (at 2 (C ∷ []) (T ∷ [])) 3
-    -- W2
+    -- W2: k=3, key AA, word GG: size 3; antemers 1, 1; postmers 1, 2
     ∷ sizeIs (at 3 (A ∷ A ∷ []) (G ∷ G ∷ [])) 3
     ∷ rowsAre (at 3 (A ∷ A ∷ []) (G ∷ G ∷ [])) (1 ∷ 1 ∷ []) (1 ∷ 2 ∷ [])
-    -- W3
+    -- W3: k=4, key TAA, word AAA: size 4; antemers 1, 0; postmers 1, 4
     ∷ sizeIs (at 4 (T ∷ A ∷ A ∷ []) (A ∷ A ∷ A ∷ [])) 4
     ∷ rowsAre (at 4 (T ∷ A ∷ A ∷ []) (A ∷ A ∷ A ∷ [])) (1 ∷ 0 ∷ []) (1 ∷ 4 ∷ [])
-    -- W4
+    -- W4: k=3, key AT, word TA: size 0
     ∷ sizeIs (at 3 (A ∷ T ∷ []) (T ∷ A ∷ [])) 0
-    -- W5
+    -- W5: k=3, key AT, word AA: the shelf is 0, 16, 32, 48
     ∷ shelfIs (at 3 (A ∷ T ∷ []) (A ∷ A ∷ [])) (0 ∷ 16 ∷ 32 ∷ 48 ∷ [])
-    -- W6
+    -- W6: W2's shelf, start 1, room 1: writes 43, answers 1
     ∷ pageIs (at 3 (A ∷ A ∷ []) (G ∷ G ∷ [])) 1 (9 ∷ []) 0 1 (43 ∷ [])
-    -- W7
+    -- W7: the same, start 3: none; start 4: refusal 8
     ∷ pageIs (at 3 (A ∷ A ∷ []) (G ∷ G ∷ [])) 3 (9 ∷ []) 0 0 (9 ∷ [])
     ∷ pageIs (at 3 (A ∷ A ∷ []) (G ∷ G ∷ [])) 4 (9 ∷ []) 8 0 (9 ∷ [])
-    -- W9, W10
-    ∷ scanIs (A ∷ C ∷ G ∷ T ∷ A ∷ C ∷ G ∷ A ∷ []) 4 2 0 (0 ∷ 1 ∷ 4 ∷ 4 ∷ 4 ∷ [])
+    -- W8: k=m=2, any key below 16, word 5, which is CC: the shelf is 5
+    ∷ map (λ v. shelfIs (at 2 (text v) (C ∷ C ∷ [])) (5 ∷ [])) (words 2)
+    -- W9: ACGTACGA, k=4, m=2, key AA: 0, 1, 4, 4, 4
+    ++ (scanIs (A ∷ C ∷ G ∷ T ∷ A ∷ C ∷ G ∷ A ∷ []) 4 2 0 (0 ∷ 1 ∷ 4 ∷ 4 ∷ 4 ∷ [])
+    -- W10: the same, key TT: 2, 3, 3, 3, 6
     ∷ scanIs (A ∷ C ∷ G ∷ T ∷ A ∷ C ∷ G ∷ A ∷ []) 4 2 15 (2 ∷ 3 ∷ 3 ∷ 3 ∷ 6 ∷ [])
-    -- W12
-    ∷ sizeRefused 0 0 0 0 1
-    ∷ sizeRefused 3 4 0 0 2
-    ∷ sizeRefused 3 2 16 16 3
-    -- W8
-    ∷ map (λ (key : List ℕ). shelfIs (at 2 key (C ∷ C ∷ [])) (5 ∷ [])) keys
-    -- W11
-    ++ tabulate (λ key. scanIs (A ∷ A ∷ A ∷ A ∷ []) 3 2 key (0 ∷ 1 ∷ [])) 16
+    -- W11: AAAA, k=3, m=2, any key below 16: 0, 1
+    ∷ tabulate (λ key. scanIs (A ∷ A ∷ A ∷ A ∷ []) 3 2 key (0 ∷ 1 ∷ [])) 16)
+    -- W12: k=0 with m=0: refusal 1; k=3, m=4: 2; key 16 with k=3, m=2 and word 16: 3
+    ++ (sizeRefused 0 0 0 0 1 ∷ sizeRefused 3 4 0 0 2 ∷ sizeRefused 3 2 16 16 3 ∷ [])
 
 -- every case of the table holds
 pub table-holds : all holds table ≡ true

@@ -19,6 +19,7 @@ use Rattle.definitions.specs.Shelves.{antemer, postmer}
 use Rattle.laws.specs.Tests.{and-r, and-i, not-or, not-and, test-ext, same-eq}
 use Rattle.laws.specs.Numbers.{letters-take, letters-append}
 use Rattle.laws.specs.Filters.{any}
+use Rattle.laws.specs.Minima.{windows-none}
 use Rattle.laws.specs.Orders.{Ranking, OneToOne, ranked, rankedFrom, atMost, ranked-atMost}
 use Rattle.laws.specs.Threads.{caught, newCaught}
 
@@ -82,13 +83,9 @@ caught-same w l [] z = refl
 caught-same w l (a ∷ u) [] = refl
 caught-same w l (a ∷ u) (b ∷ z) = ap (λ (t : Bool). eqb b a && t) (caught-same w (suc l) u z)
 
--- no window is as short as nothing
-windows-none : (m : ℕ) → 0 < m → windows m [] ≡ []
-windows-none m h = ap (λ (t : Bool). put t [] []) (lt-leb m 0 h)
-
 -- the words that hold w among their windows
 pub holds-threads : (w z : Word) → 0 < length w → any (λ v. same v w) (windows (length w) z) ≡ newCaught w (λ l b r. false) true z []
-holds-threads w [] h = ap (any (λ v. same v w)) (windows-none (length w) h)
+holds-threads w [] h = ap (any (λ v. same v w)) (windows-none (length w) [] h)
 holds-threads w (b ∷ z) h =
     any-put (λ v. same v w) (leb (length w) (suc (length z))) (take (length w) (b ∷ z)) (windows (length w) z)
     ∙ ap₂ (λ (s t : Bool). s || t) (long-enough ∙ sym (ap (λ (y : Word). caught w (λ l c r. false) true zero w (b ∷ y)) (append-nil z) ∙ caught-same w zero w (b ∷ z)))
@@ -105,7 +102,7 @@ holds-threads w (b ∷ z) h =
 module _ (ρ : Ranking) (one : OneToOne ρ) (w : Word) (hw : Letters w) where
   -- the postmers: no thread that begins in z is caught below w
   pub postmer-threads : (z : Word) → 0 < length w → Letters z → postmer (ranked ρ) w z ≡ not (newCaught w (belowHit ρ w) false z [])
-  postmer-threads [] h hz = ap (all (λ v. not (below (ranked ρ) w v))) (windows-none (length w) h)
+  postmer-threads [] h hz = ap (all (λ v. not (below (ranked ρ) w v))) (windows-none (length w) [] h)
   postmer-threads (b ∷ z) h hz =
       all-put (λ v. not (below (ranked ρ) w v)) (leb (length w) (suc (length z))) (take (length w) (b ∷ z)) (windows (length w) z)
       ∙ ap₂ (λ (s t : Bool). s && t) here (postmer-threads z h (hz .1))

@@ -16,5 +16,8 @@ pub mod Marks
 pub mod Split
 pub mod Prefixes
 pub mod Rules
+pub mod ByPrefix
+pub mod Antemers
+pub mod Postmers
 pub mod Print
 pub mod Refusals

@@ -4,10 +4,10 @@ use Prim.Native.Nat.{ℕ, zero, suc, _+_, _-_, _≤_, _<_, min, suc-le-suc}
 use mathlib.Core.Bool.{Bool, true, false, cond, not, _&&_}
 use mathlib.Core.List.{List, [], _∷_, _++_, map, List·Memᴰ, List·Memᴰ·head, List·Memᴰ·tail, List·Memᴰ·not-nil, List·Memᴰ·cases-cons}
 use mathlib.Core.Logic.{_⊎_, inl, inr, ⊎-elim}
-use mathlib.Core.Path.{_≡_, refl, sym, ap, _∙_}
+use mathlib.Core.Path.{_≡_, refl, sym, ap, ap₂, _∙_}
 use native.Mathlib.Nat.{zero-add, suc-add, lt-trans, le-trans, lt-of-lt-of-le, min-eq-left, min-eq-right, le-refl, le-of-lt, le-of-suc-le-suc, not-suc-le-zero, zero-lt-suc, le-antisymm}
 use native.Mathlib.Omega.{arith}
-use borrow.Author.Tests.{ltb-false, le-ltb, leb-true, leb-false, le-leb, not-true}
+use borrow.Author.Tests.{lt-leb, ltb-false, le-ltb, leb-true, leb-false, le-leb, not-true}
 use lib.Dec.{leb}
 use lib.ListN.{length, getD, take, drop, length-map, length-append, length-take, length-drop, List·getD-append, List·getD-eq-default}
 use lib.Seq.{length-take-le, take-nil, getD-append-add, take-take, ext-getD, drop-drop, getD-drop, getD-take}
@@ -215,6 +215,11 @@ module _ {A : Type 0} where
 put-length : (n k : ℕ) (y : Word) (ys : List Word) (t : Bool) → leb n k ≡ t → length ys ≡ k - n → length (put t y ys) ≡ suc k - n
 put-length n k y ys true e h = let b : n ≤ k = leb-true n k e in omega arith
 put-length n k y ys false e h = let b : k < n = leb-false n k e in omega arith
+
+-- a word has no window longer than itself
+pub windows-none : (m : ℕ) (z : Word) → length z < m → windows m z ≡ []
+windows-none m [] h = ap (λ (t : Bool). put t [] []) (lt-leb m 0 h)
+windows-none m (a ∷ z) h = ap₂ (λ (t : Bool) (l : List Word). put t (take m (a ∷ z)) l) (lt-leb m (suc (length z)) h) (windows-none m z (omega arith))
 
 -- how many windows of n letters a word has
 pub length-windows : (n : ℕ) (x : Word) → length (windows n x) ≡ suc (length x) - n
