@@ -34,6 +34,7 @@ pub record Setting : Type 0 where
 abbrev at : ℕ → List ℕ → List ℕ → Setting
 at k key w = record { k = k; key = key; word = w }
 
+-- a case: what is asked, and then what must come of it
 pub data Case : Type 0 where
   -- the size
   sizeIs : Setting → ℕ → Case

@@ -1,5 +1,6 @@
 -- The whole outcome of each operation, from all its inputs, lent room included, to its answer and the last contents of its room,
--- refused or not (document 01, "Numbers of refusal" and "Pages and scans"). An accepted answer has refusal 0. Beside a refusal
+-- refused or not (document 01, "Numbers of refusal" and "Pages and scans"). For each operation: what it answers, on which grounds it
+-- refuses, its answer under a number of refusal, where 0 says that nothing is refused, and from these its outcome. Beside a refusal
 -- stand zeros, or the place of a bad letter, and the room is as it was lent.
 -- Assumes nothing.
 use Prim.Native.Nat.{ℕ, zero, suc, _+_, _-_, _*_, _^_}
@@ -11,148 +12,175 @@ use Rattle.definitions.specs.Vigemins.{Form, keyed, windows, vigemin, vi
 use Rattle.definitions.specs.Shelves.{size, page, antemers, postmers, column}
 use Rattle.definitions.specs.Refusals.{Ground, refusal, badLength, badM, badKey, badWord, badSequence, badLetter, badRoom, badStart, badDepth, placeBeside}
 
--- ---- packing and unpacking
+-- ---- pack(text)
 
+-- the number of the word that the text spells
 pub record Packed : Type 0 where
   pub refusal : ℕ
   pub place : ℕ
   pub word : ℕ
 
+-- packing tests 1, 6
 abbrev pub packGrounds : List ℕ → List Ground
 packGrounds t = badLength (length t) ∷ badLetter t ∷ []
 
+-- its answer under a number of refusal
 unfoldable pub packAnswer : ℕ → List ℕ → Packed
 packAnswer zero t = record { refusal = 0; place = 0; word = val (spelled t) }
 packAnswer (suc r) t = record { refusal = suc r; place = placeBeside (suc r) t; word = 0 }
 
--- pack(text): the number of the word that the text spells
+-- the outcome of pack(text)
 unfoldable pub packed : List ℕ → Packed
 unfolding packAnswer
 packed t = packAnswer (refusal (packGrounds t)) t
 
+-- ---- unpack(word, length, room)
+
+-- how many letters are written at the front of the room
 pub record Unpacked : Type 0 where
   pub refusal : ℕ
   pub written : ℕ
   pub room : List ℕ
 
+-- unpacking tests 1, 4, 7
 abbrev pub unpackGrounds : ℕ → ℕ → List ℕ → List Ground
 unpackGrounds x n room = badLength n ∷ badWord n x ∷ badRoom n room ∷ []
 
+-- its answer under a number of refusal
 unfoldable pub unpackAnswer : ℕ → ℕ → ℕ → List ℕ → Unpacked
 unpackAnswer zero x n room = record { refusal = 0; written = n; room = over (text (word n x)) room }
 unpackAnswer (suc r) x n room = record { refusal = suc r; written = 0; room = room }
 
--- unpack(word, length, room): the word's text at the front of the room
+-- the outcome of unpack(word, length, room)
 unfoldable pub unpacked : ℕ → ℕ → List ℕ → Unpacked
 unfolding unpackAnswer
 unpacked x n room = unpackAnswer (refusal (unpackGrounds x n room)) x n room
 
--- ---- the vigemin of a k-mer
+-- ---- vigemin(k, m, key, kmer)
 
+-- the vigemin's number, and its position
 pub record Found : Type 0 where
   pub refusal : ℕ
   pub word : ℕ
   pub position : ℕ
 
+-- the vigemin tests 1 to 4
 abbrev pub vigeminGrounds : ℕ → ℕ → ℕ → ℕ → List Ground
 vigeminGrounds k m key x = badLength k ∷ badM k m ∷ badKey m key ∷ badWord k x ∷ []
 
+-- its answer under a number of refusal
 unfoldable pub vigeminAnswer : ℕ → Form → ℕ → Word → Found
 vigeminAnswer zero f m x = record { refusal = 0; word = val (vigemin f m x); position = vigeminAt f m x }
 vigeminAnswer (suc r) f m x = record { refusal = suc r; word = 0; position = 0 }
 
--- vigemin(k, m, key, kmer): the word and its position
+-- the outcome of vigemin(k, m, key, kmer)
 unfoldable pub found : ℕ → ℕ → ℕ → ℕ → Found
 unfolding vigeminAnswer
 found k m key x = vigeminAnswer (refusal (vigeminGrounds k m key x)) (keyed (word m key)) m (word k x)
 
--- ---- sizes, worksheets and the plain counter
+-- ---- size(k, m, key, word)
 
+-- a number of words
 pub record Counted : Type 0 where
   pub refusal : ℕ
   pub count : ℕ
 
+-- the size and the worksheet test 1 to 4
 abbrev pub shelfGrounds : ℕ → ℕ → ℕ → ℕ → List Ground
 shelfGrounds k m key w = badLength k ∷ badM k m ∷ badKey m key ∷ badWord m w ∷ []
 
+-- the size under a number of refusal
 unfoldable pub sizeAnswer : ℕ → Form → ℕ → Word → Counted
 sizeAnswer zero f k w = record { refusal = 0; count = size f k w }
 sizeAnswer (suc r) f k w = record { refusal = suc r; count = 0 }
 
--- size(k, m, key, word): how many k-mers the shelf holds
+-- the outcome of size(k, m, key, word)
 unfoldable pub sized : ℕ → ℕ → ℕ → ℕ → Counted
 unfolding sizeAnswer
 sized k m key w = sizeAnswer (refusal (shelfGrounds k m key w)) (keyed (word m key)) k (word m w)
 
+-- ---- worksheet(k, m, key, word)
+
+-- the two columns of 31 counts
 pub record Worked : Type 0 where
   pub refusal : ℕ
   pub antemers : List ℕ
   pub postmers : List ℕ
 
+-- the worksheet under a number of refusal
 unfoldable pub worksheetAnswer : ℕ → Form → ℕ → ℕ → Word → Worked
 worksheetAnswer zero f k m w = record { refusal = 0; antemers = column k m (antemers f w); postmers = column k m (postmers f w) }
 worksheetAnswer (suc r) f k m w = record { refusal = suc r; antemers = replicate 31 0; postmers = replicate 31 0 }
 
--- worksheet(k, m, key, word): the two columns of 31 counts
+-- the outcome of worksheet(k, m, key, word)
 unfoldable pub worked : ℕ → ℕ → ℕ → ℕ → Worked
 unfolding worksheetAnswer
 worked k m key w = worksheetAnswer (refusal (shelfGrounds k m key w)) (keyed (word m key)) k m (word m w)
 
+-- ---- the plain counter (k, m, key, word)
+
+-- the plain counter tests 1 to 4, then 9
 abbrev pub counterGrounds : ℕ → ℕ → ℕ → ℕ → List Ground
 counterGrounds k m key w = shelfGrounds k m key w ++ (badDepth k m ∷ [])
 
+-- the number of antemers of length a, under a number of refusal
 unfoldable pub counterAnswer : ℕ → Form → ℕ → Word → Counted
 counterAnswer zero f a w = record { refusal = 0; count = antemers f w a }
 counterAnswer (suc r) f a w = record { refusal = suc r; count = 0 }
 
--- the plain counter (k, m, key, word): the number of antemers of length k − m
+-- the outcome of the plain counter: the number of antemers of length k − m
 unfoldable pub counted : ℕ → ℕ → ℕ → ℕ → Counted
 unfolding counterAnswer
 counted k m key w = counterAnswer (refusal (counterGrounds k m key w)) (keyed (word m key)) (k - m) (word m w)
 
--- ---- pages
+-- ---- page(k, m, key, word, start, room)
 
+-- how many k-mers are written at the front of the room
 pub record Paged : Type 0 where
   pub refusal : ℕ
   pub written : ℕ
   pub room : List ℕ
 
+-- a page tests 1 to 4, then 8
 abbrev pub pageGrounds : ℕ → ℕ → ℕ → ℕ → ℕ → List Ground
 pageGrounds k m key w start = shelfGrounds k m key w ++ (badStart (size (keyed (word m key)) k (word m w)) start ∷ [])
 
--- some numbers written at the front of the room, and how many
+-- some numbers at the front of the room
 unfoldable pub pageWritten : List ℕ → List ℕ → Paged
 pageWritten new room = record { refusal = 0; written = length new; room = over new room }
 
+-- its answer under a number of refusal: as many k-mers as there are from the start on and the room takes
 unfoldable pub pageAnswer : ℕ → Form → ℕ → Word → ℕ → List ℕ → Paged
 unfolding pageWritten
 pageAnswer zero f k w start room = pageWritten (map val (page f k w start (length room))) room
 pageAnswer (suc r) f k w start room = record { refusal = suc r; written = 0; room = room }
 
--- page(k, m, key, word, start, room): the numbers of the k-mers from the start on, as many as there are and the room takes
+-- the outcome of page(k, m, key, word, start, room)
 unfoldable pub paged : ℕ → ℕ → ℕ → ℕ → ℕ → List ℕ → Paged
 unfolding pageAnswer
 paged k m key w start room = pageAnswer (refusal (pageGrounds k m key w start)) (keyed (word m key)) k (word m w) start room
 
--- ---- scans
+-- ---- scan(k, m, key, seq, room)
 
+-- the place of a bad letter, and the number of windows
 pub record Scanned : Type 0 where
   pub refusal : ℕ
   pub place : ℕ
   pub windows : ℕ
   pub room : List ℕ
 
--- where each window takes so many entries of the room
+-- a scan tests 1, 2, 3, 5, 6, 7; each window takes so many entries of the room
 abbrev pub scanGrounds : ℕ → ℕ → ℕ → List ℕ → ℕ → List ℕ → List Ground
 scanGrounds k m key s each room =
     badLength k ∷ badM k m ∷ badKey m key ∷ badSequence s ∷ badLetter s ∷ badRoom (each * length (windows k s)) room ∷ []
 
+-- its answer under a number of refusal: the entries that stand for the positions are written
 unfoldable pub scanAnswer : ℕ → (List ℕ → List ℕ) → Form → ℕ → ℕ → List ℕ → List ℕ → Scanned
 scanAnswer zero entries f k m s room =
     record { refusal = 0; place = 0; windows = length (windows k s); room = over (entries (scan f k m (spelled s))) room }
 scanAnswer (suc r) entries f k m s room = record { refusal = suc r; place = placeBeside (suc r) s; windows = 0; room = room }
 
--- scan(k, m, key, seq, room): for each window the position of its vigemin in the whole sequence
+-- the outcome of scan(k, m, key, seq, room): for each window the position of its vigemin in the whole sequence
 unfoldable pub scanned : ℕ → ℕ → ℕ → List ℕ → List ℕ → Scanned
 unfolding scanAnswer
 scanned k m key s room = scanAnswer (refusal (scanGrounds k m key s 1 room)) (λ ps. ps) (keyed (word m key)) k m s room
@@ -164,7 +192,7 @@ abbrev pub coded : ℕ → ℕ → ℕ → ℕ
 coded zero place answer = answer
 coded (suc r) place answer = 2 ^ 63 + 65536 * suc r + place
 
--- tukinraso_size(k, m, key, word)
+-- the outcome of tukinraso_size(k, m, key, word)
 unfoldable pub foreignSize : ℕ → ℕ → ℕ → ℕ → ℕ
 unfolding sized
 foreignSize k m key w = let o = sized k m key w in coded (o .refusal) 0 (o .count)
@@ -174,11 +202,12 @@ abbrev pub asBytes : List ℕ → List ℕ
 asBytes [] = []
 asBytes (p ∷ ps) = bytes 4 p ++ asBytes ps
 
+-- the one number, and the room of bytes
 pub record ForeignScanned : Type 0 where
   pub answer : ℕ
   pub room : List ℕ
 
--- tukinraso_scan(k, m, key, seq, room): the scan into bytes
+-- the outcome of tukinraso_scan(k, m, key, seq, room)
 unfoldable pub foreignScan : ℕ → ℕ → ℕ → List ℕ → List ℕ → ForeignScanned
 unfolding scanAnswer
 foreignScan k m key s room =

@@ -14,6 +14,7 @@ pub record Ground : Type 0 where
   pub number : ℕ
   pub met : Bool
 
+-- a number of refusal beside its test
 abbrev pub _when_ : ℕ → Bool → Ground
 n when t = record { number = n; met = t }
 

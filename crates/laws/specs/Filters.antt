@@ -18,18 +18,17 @@ module _ {A : Type 0} where
   any p [] = false
   any p (a ∷ l) = p a || any p l
 
-  -- what is chosen passes the test, and was there
   filter-sound-at : (p : A → Bool) (a : A) (l : List A) {x : A} (t : Bool) → p a ≡ t
       → (List·Memᴰ x (filter p l) → List·Memᴰ x l × (p x ≡ true)) → List·Memᴰ x (put t a (filter p l)) → List·Memᴰ x (a ∷ l) × (p x ≡ true)
   filter-sound-at p a l true e rec m =
       ⊎-elim (λ q. (List·Memᴰ·head q, ap p q ∙ e)) (λ r. (List·Memᴰ·tail (rec r .0), rec r .1)) (List·Memᴰ·cases-cons m)
   filter-sound-at p a l false e rec m = (List·Memᴰ·tail (rec m .0), rec m .1)
 
+  -- what is chosen passes the test, and was there
   pub filter-sound : (p : A → Bool) (l : List A) {x : A} → List·Memᴰ x (filter p l) → List·Memᴰ x l × (p x ≡ true)
   filter-sound p [] h = absurd (List·Memᴰ·not-nil h)
   filter-sound p (a ∷ l) h = filter-sound-at p a l (p a) refl (λ r. filter-sound p l r) h
 
-  -- what was there and passes the test is chosen
   filter-complete-at : (p : A → Bool) (a : A) (l : List A) {x : A} (t : Bool) → p a ≡ t → p x ≡ true
       → (List·Memᴰ x l → List·Memᴰ x (filter p l)) → (x ≡ a) ⊎ List·Memᴰ x l → List·Memᴰ x (put t a (filter p l))
   filter-complete-at p a l true e px rec (inl q) = List·Memᴰ·head q
@@ -37,6 +36,7 @@ module _ {A : Type 0} where
   filter-complete-at p a l false e px rec (inl q) = absurd (contrary (p a) (ap p (sym q) ∙ px) e)
   filter-complete-at p a l false e px rec (inr m) = rec m
 
+  -- what was there and passes the test is chosen
   pub filter-complete : (p : A → Bool) (l : List A) {x : A} → List·Memᴰ x l → p x ≡ true → List·Memᴰ x (filter p l)
   filter-complete p [] h px = absurd (List·Memᴰ·not-nil h)
   filter-complete p (a ∷ l) h px = filter-complete-at p a l (p a) refl px (λ m. filter-complete p l m px) (List·Memᴰ·cases-cons h)

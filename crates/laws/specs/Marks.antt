@@ -23,13 +23,15 @@ use Rattle.laws.specs.Acceptors.{belowHit}
 use Rattle.laws.specs.Tables.{shelfOk, shelfStep, shelfEnd, shelfWays, shelf-accepted, shelf-table, postmerOk, postmerEnd, postmerWays, postmer-end, antemerOk, antemerWays}
 
 module _ (ρ : Ranking) (w : Word) where
-  -- the k-mer at place r, the place of a k-mer, and the next k-mer, each from the table
+  -- the k-mer at place r, from the table
   abbrev pub kmerAt : ℕ → ℕ → Word
   kmerAt k r = wordAt (shelfOk ρ w) (shelfStep ρ w) (shelfEnd ρ w) (false, zero) k r
 
+  -- the place of a k-mer
   abbrev pub placeOf : ℕ → Word → ℕ
   placeOf k x = placeAt (shelfOk ρ w) (shelfStep ρ w) (shelfEnd ρ w) (false, zero) k x
 
+  -- the k-mer that comes next
   abbrev pub nextOf : ℕ → Word → Option Word
   nextOf k x = nextAt (shelfOk ρ w) (shelfStep ρ w) (shelfEnd ρ w) (false, zero) k x
 

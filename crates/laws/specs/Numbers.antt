@@ -6,7 +6,7 @@ use mathlib.Core.List.{List, [], _∷_, _++_}
 use mathlib.Core.Path.{_≡_, refl, sym, ap, ap₂, _∙_}
 use native.Mathlib.Nat.{zero-lt-suc, le-of-suc-le-suc, not-suc-le-zero, pow-zero, pow-succ', mod-lt, mod-one, one-le-pow, mod-eq-of-lt, zero-mul, zero-add, suc-ne-zero, suc-inj, sub-zero, zero-sub, suc-sub-suc, sub-add-cancel, sub-right-comm, div-div-eq-div-mul, mul-suc, pow-suc, one-mul, mul-one, add-zero, lt-of-le-of-lt, add-mul, mul-assoc, add-assoc}
 use native.Mathlib.Omega.{arith}
-use borrow.Author.Tests.{ltb-true, ltb-false, lt-ltb, le-ltb, eqb-true, eqb-false}
+use borrow.Author.Tests.{ltb-true, ltb-false, lt-ltb, le-ltb, eqb-true, eqb-false, eq-eqb}
 use lib.Arith.{digits-lt, digits-mod, digits-div, mod-mul}
 use lib.Pow.{pow-add}
 use lib.Bits.{bitXor, xor-lt, xor-zero-r, xor-block}
@@ -140,6 +140,21 @@ pub number-less : (b a c : ℕ) (u v : List ℕ) → Digits b u → Digits b v �
     → ltb (number b (a ∷ u)) (number b (c ∷ v)) ≡ (ltb a c || (eqb a c && ltb (number b u) (number b v)))
 number-less b a c u v hu hv e =
     rw (← e) (high-less (b ^ length u) a c (number b u) (number b v) (number-lt b u hu) (rw e (number-lt b v hv)))
+
+-- numbers of equally many digits are equal where all digits are
+pub number-same : (b a c : ℕ) (u v : List ℕ) → Digits b u → Digits b v → length u ≡ length v
+    → eqb (number b (a ∷ u)) (number b (c ∷ v)) ≡ (eqb a c && eqb (number b u) (number b v))
+number-same b a c u v hu hv e =
+    rw (← e) (high-same (b ^ length u) (number b u) (number b v) (number-lt b u hu) (rw e (number-lt b v hv)))
+  where
+    high-same : (m r s : ℕ) → r < m → s < m → eqb (a * m + r) (c * m + s) ≡ (eqb a c && eqb r s)
+    high-same m r s hr hs =
+        test-ext (eqb (a * m + r) (c * m + s)) (eqb a c && eqb r s)
+        (λ q. let x : a * m + r ≡ c * m + s = eqb-true (a * m + r) (c * m + s) q in
+        and-i (eqb a c) (eqb r s) (eq-eqb a c (sym (digits-div a hr) ∙ ap (λ (y : ℕ). y / m) x ∙ digits-div c hs))
+        (eq-eqb r s (sym (digits-mod a hr) ∙ ap (λ (y : ℕ). y % m) x ∙ digits-mod c hs)))
+        (λ q. eq-eqb (a * m + r) (c * m + s)
+        (ap₂ (λ (y z : ℕ). y * m + z) (eqb-true a c (and-l (eqb a c) (eqb r s) q)) (eqb-true r s (and-r (eqb a c) (eqb r s) q))))
 
 -- ---- the letters of parts of words
 

@@ -1,20 +1,22 @@
 -- Forms that go letter by letter, by a ranking for each place: the keyed form is one, and under such a form words are compared
 -- letter by letter. All laws of shelves are proved over these.
 -- Assumes nothing.
-use Prim.Native.Nat.{ℕ, zero, suc, _+_, _*_, _/_, _%_, _^_, _<_}
+use Prim.Native.Nat.{ℕ, zero, suc, _<_}
 use mathlib.Core.Bool.{Bool, true, false, _&&_, _||_}
-use mathlib.Core.List.{List, [], _∷_}
-use mathlib.Core.Path.{_≡_, refl, sym, ap, ap₂, _∙_, fun-ext}
+use mathlib.Core.List.{[], _∷_}
+use mathlib.Core.Path.{subst, _≡_, refl, sym, ap, ap₂, _∙_, fun-ext}
 use native.Mathlib.Nat.{suc-inj}
 use native.Mathlib.Omega.{arith}
-use lib.Arith.{digits-div, digits-mod}
 use lib.Dec.{ltb, eqb}
 use lib.ListN.{length, getD}
 use borrow.Author.Tests.{eqb-true, eq-eqb}
-use Rattle.definitions.specs.Words.{Word, Digits, Letters, sum, _⊕_, val, number}
-use Rattle.definitions.specs.Vigemins.{Form, keyed, value}
-use Rattle.laws.specs.Tests.{and-l, and-r, and-i, test-ext}
-use Rattle.laws.specs.Numbers.{number-lt, number-less, letter-at, sum-lt, sum-cancel, sum-zero}
+use Rattle.definitions.specs.Words.{Word, Letters, same, sum, _⊕_, val}
+use Rattle.definitions.specs.Vigemins.{Form, keyed, value, windows, vigemin}
+use Rattle.definitions.specs.Shelves.{postmer}
+use Rattle.laws.specs.Tests.{and-l, and-r, test-ext}
+use Rattle.laws.specs.Filters.{any}
+use Rattle.laws.specs.Minima.{windows-mer, vigemin-is}
+use Rattle.laws.specs.Numbers.{number-less, number-same, letter-at, sum-lt, sum-cancel, sum-zero}
 
 -- for each place the rank of each letter
 abbrev pub Ranking : Type 0
@@ -65,26 +67,15 @@ keyed-one-to-one key h = record {
   apart = λ p a b ha hb e. sum-cancel ha hb (letter-at key p h) e;
 }
 
+-- what holds of every form that goes letter by letter by one-to-one rankings holds of the keyed form
+pub keyed-law : (P : Form → Type 0) → ((ρ : Ranking) → OneToOne ρ → P (ranked ρ)) → (key : Word) → Letters key → P (keyed key)
+keyed-law P h key hk = subst P (sym (keyed-ranked key)) (h (keyRanking key) (keyed-one-to-one key hk))
+
 -- ---- the order, letter by letter
 
 -- x is below y, or, where that is asked, equal to it
 abbrev pub atMost : Bool → ℕ → ℕ → Bool
 atMost final x y = ltb x y || (final && eqb x y)
-
--- numbers of equally many digits are equal where all digits are
-pub number-same : (b a c : ℕ) (u v : List ℕ) → Digits b u → Digits b v → length u ≡ length v
-    → eqb (number b (a ∷ u)) (number b (c ∷ v)) ≡ (eqb a c && eqb (number b u) (number b v))
-number-same b a c u v hu hv e =
-    rw (← e) (high-same (b ^ length u) (number b u) (number b v) (number-lt b u hu) (rw e (number-lt b v hv)))
-  where
-    high-same : (m r s : ℕ) → r < m → s < m → eqb (a * m + r) (c * m + s) ≡ (eqb a c && eqb r s)
-    high-same m r s hr hs =
-        test-ext (eqb (a * m + r) (c * m + s)) (eqb a c && eqb r s)
-        (λ q. let x : a * m + r ≡ c * m + s = eqb-true (a * m + r) (c * m + s) q in
-        and-i (eqb a c) (eqb r s) (eq-eqb a c (sym (digits-div a hr) ∙ ap (λ (y : ℕ). y / m) x ∙ digits-div c hs))
-        (eq-eqb r s (sym (digits-mod a hr) ∙ ap (λ (y : ℕ). y % m) x ∙ digits-mod c hs)))
-        (λ q. eq-eqb (a * m + r) (c * m + s)
-        (ap₂ (λ (y z : ℕ). y * m + z) (eqb-true a c (and-l (eqb a c) (eqb r s) q)) (eqb-true r s (and-r (eqb a c) (eqb r s) q))))
 
 module _ (ρ : Ranking) (one : OneToOne ρ) where
   -- the ranks of letters are letters
@@ -92,6 +83,7 @@ module _ (ρ : Ranking) (one : OneToOne ρ) where
   ranked-letters p [] h = tt
   ranked-letters p (a ∷ v) h = (one .small p a (h .0), ranked-letters (suc p) v (h .1))
 
+  -- and as many
   pub length-ranked : (p : ℕ) (v : Word) → length (rankedFrom ρ p v) ≡ length v
   length-ranked p [] = refl
   length-ranked p (a ∷ v) = ap suc (length-ranked (suc p) v)
@@ -133,7 +125,6 @@ module _ (ρ : Ranking) (one : OneToOne ρ) where
       gather false false s true q = refl
       gather false false s false q = refl
 
-  -- words of one length that are compared by one number are one word
   value-one-from : (p : ℕ) (v w : Word) → Letters v → Letters w → length v ≡ length w
       → eqb (val (rankedFrom ρ p v)) (val (rankedFrom ρ p w)) ≡ true → v ≡ w
   value-one-from p [] [] hv hw e q = refl
@@ -145,5 +136,12 @@ module _ (ρ : Ranking) (one : OneToOne ρ) where
       ap₂ (λ (x : ℕ) (y : Word). x ∷ y) (eqb-true a b (and-l (eqb a b) (eqb (val (rankedFrom ρ (suc p) v)) (val (rankedFrom ρ (suc p) w))) t))
       (value-one-from (suc p) v w (hv .1) (hw .1) k (and-r (eqb a b) (eqb (val (rankedFrom ρ (suc p) v)) (val (rankedFrom ρ (suc p) w))) t))
 
+  -- words of one length that are compared by one number are one word
   pub value-one : (v w : Word) → Letters v → Letters w → length v ≡ length w → value (ranked ρ) v ≡ value (ranked ρ) w → v ≡ w
   value-one v w hv hw e q = value-one-from zero v w hv hw e (eq-eqb (value (ranked ρ) v) (value (ranked ρ) w) q)
+
+  -- the vigemin of a k-mer is w exactly if no m-mer of it is below w and w is among them
+  pub vigemin-exactly : (w : Word) → Letters w → 0 < length w → (x : Word) → Letters x
+      → same (vigemin (ranked ρ) (length w) x) w ≡ (postmer (ranked ρ) w x && any (λ v. same v w) (windows (length w) x))
+  vigemin-exactly w hw pos x h =
+      vigemin-is (ranked ρ) (windows (length w) x) w pos (λ u k e. let d = windows-mer (length w) x h k in value-one u w (d .1) hw (d .0) e)

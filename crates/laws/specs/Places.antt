@@ -17,18 +17,22 @@ abbrev pub anyTo : ℕ → (ℕ → Bool) → Bool
 anyTo zero p = false
 anyTo (suc n) p = p zero || anyTo n (λ l. p (suc l))
 
+-- tests that agree below n hold at some place alike
 pub anyTo-cong : (n : ℕ) {p q : ℕ → Bool} → ((l : ℕ) → l < n → p l ≡ q l) → anyTo n p ≡ anyTo n q
 anyTo-cong zero h = refl
 anyTo-cong (suc n) h = ap₂ (λ (s t : Bool). s || t) (h zero (omega arith)) (anyTo-cong n (λ l k. h (suc l) (omega arith)))
 
+-- what holds nowhere holds at no place
 pub anyTo-never : (n : ℕ) → anyTo n (λ l. false) ≡ false
 anyTo-never zero = refl
 anyTo-never (suc n) = anyTo-never n
 
+-- the last place split off
 pub anyTo-last : (n : ℕ) (p : ℕ → Bool) → anyTo (suc n) p ≡ (anyTo n p || p n)
 anyTo-last zero p = or-false (p zero)
 anyTo-last (suc n) p = ap (λ (t : Bool). p zero || t) (anyTo-last n (λ l. p (suc l))) ∙ sym (or-assoc (p zero) (anyTo n (λ l. p (suc l))) (p (suc n)))
 
+-- one of two tests at some place
 pub anyTo-or : (n : ℕ) (p q : ℕ → Bool) → anyTo n (λ l. p l || q l) ≡ (anyTo n p || anyTo n q)
 anyTo-or zero p q = refl
 anyTo-or (suc n) p q = ap (λ (t : Bool). p zero || q zero || t) (anyTo-or n (λ l. p (suc l)) (λ l. q (suc l))) ∙ exchange (p zero) (q zero) (anyTo n (λ l. p (suc l))) (anyTo n (λ l. q (suc l)))
@@ -98,6 +102,7 @@ firstTo-is (suc n) p zero h e low = ap (λ (t : Bool). cond t zero (suc (firstTo
 firstTo-is (suc n) p (suc q) h e low =
     ap₂ (λ (t : Bool) (k : ℕ). cond t zero (suc k)) (low zero (omega arith)) (firstTo-is n (λ l. p (suc l)) q (le-of-suc-le-suc h) e (λ l k. low (suc l) (omega arith)))
 
+-- where the test holds at no place it is n
 pub firstTo-none : (n : ℕ) (p : ℕ → Bool) → ((l : ℕ) → l < n → p l ≡ false) → firstTo n p ≡ n
 firstTo-none zero p h = refl
 firstTo-none (suc n) p h = ap₂ (λ (t : Bool) (k : ℕ). cond t zero (suc k)) (h zero (omega arith)) (firstTo-none n (λ l. p (suc l)) (λ l k. h (suc l) (omega arith)))
@@ -122,6 +127,7 @@ firstTo-before (suc n) p q h = go (p zero) refl q h (λ l k. firstTo-before n (�
     go false e zero k rec = e
     go false e (suc l) k rec = rec l (le-of-suc-le-suc k)
 
+-- tests that agree below n hold first at one place
 pub firstTo-cong : (n : ℕ) (p q : ℕ → Bool) → ((l : ℕ) → l < n → p l ≡ q l) → firstTo n p ≡ firstTo n q
 firstTo-cong zero p q h = refl
 firstTo-cong (suc n) p q h = ap₂ (λ (t : Bool) (k : ℕ). cond t zero (suc k)) (h zero (omega arith)) (firstTo-cong n (λ l. p (suc l)) (λ l. q (suc l)) (λ l k. h (suc l) (omega arith)))

@@ -25,18 +25,21 @@ use Rattle.laws.specs.Walks.{accepts, ways}
 use Rattle.laws.specs.Tables.{fine, fineAt, doneAt, allFine, allFine-match, through-fine, ways-free}
 use Rattle.laws.specs.Prefixes.{goesOn, sharing, sharingFrom, completions, prefix-rule}
 
--- how one number stands to another
+-- below, equal or above
 pub data Sign : Type 0 where
   less equal greater : Sign
 
+-- the sign of one number against another
 abbrev pub sign : ℕ → ℕ → Sign
 sign x y = cond (ltb x y) less (cond (eqb x y) equal greater)
 
+-- the sign is below
 abbrev pub isLess : Sign → Bool
 isLess less = true
 isLess equal = false
 isLess greater = false
 
+-- the sign is equal
 abbrev pub isEqual : Sign → Bool
 isEqual less = false
 isEqual equal = true
@@ -112,8 +115,8 @@ stretch-last : (w : Word) (p i : ℕ) → p ≤ i → i < length w → drop p (t
 stretch-last w p i h k =
     ap (drop p) (take-suc w i 0 k) ∙ drop-append-le p (take i w) (getD w i 0 ∷ []) (let e : length (take i w) ≡ i = length-take-le i w (omega arith) in omega arith)
 
-length-stretch : (w : Word) (p l i : ℕ) → p + l ≡ i → i ≤ length w → length (drop p (take i w)) ≡ l
-length-stretch w p l i e h =
+length-between : (w : Word) (p l i : ℕ) → p + l ≡ i → i ≤ length w → length (drop p (take i w)) ≡ l
+length-between w p l i e h =
     length-drop p (take i w) ∙ ap (λ (n : ℕ). n - p) (length-take-le i w h) ∙ (omega arith)
 
 -- the latest l of the first p + l letters of w are its first l
@@ -124,7 +127,7 @@ stretch-matches w p (suc l) h =
     ap₂ same
     (ap (λ (n : ℕ). drop p (take n w)) (add-suc p l) ∙ stretch-last w p (p + l) (omega arith) (omega arith)) (take-suc w l 0 (omega arith))
     ∙ same-last (drop p (take (p + l) w)) (take l w) (getD w (p + l) 0) (getD w l 0)
-    (length-stretch w p l (p + l) refl (omega arith) ∙ sym (length-take-le l w (omega arith)))
+    (length-between w p l (p + l) refl (omega arith) ∙ sym (length-take-le l w (omega arith)))
     ∙ ap (λ (t : Bool). t && eqb (getD w (p + l) 0) (getD w l 0)) (stretch-matches w p l (omega arith))
     ∙ and-comm (matches w l (first w (p + l))) (eqb (getD w (p + l) 0) (getD w l 0))
     ∙ ap (λ (n : ℕ). matches w (suc l) (first w n)) (sym (add-suc p l))
@@ -150,9 +153,9 @@ module _ (ρ : Ranking) (one : OneToOne ρ) (w : Word) (hw : Letters w) where
   pub equal-matches : (p l i : ℕ) → p + l ≡ i → i ≤ length w → isEqual (R ρ w i (suc p)) ≡ matches w l (first w i)
   equal-matches p l i e h =
       sign-equal (value (ranked ρ) (drop p (take i w))) (value (ranked ρ) (take (length (drop p (take i w))) w))
-      ∙ ap (λ (n : ℕ). eqb (value (ranked ρ) (drop p (take i w))) (value (ranked ρ) (take n w))) (length-stretch w p l i e h)
+      ∙ ap (λ (n : ℕ). eqb (value (ranked ρ) (drop p (take i w))) (value (ranked ρ) (take n w))) (length-between w p l i e h)
       ∙ value-same (drop p (take i w)) (take l w) (letters-drop p (take i w) (letters-take i w hw)) (letters-take l w hw)
-      (length-stretch w p l i e h ∙ sym (length-take-le l w (omega arith)))
+      (length-between w p l i e h ∙ sym (length-take-le l w (omega arith)))
       ∙ ap (λ (n : ℕ). same (drop p (take n w)) (take l w)) (sym e) ∙ stretch-matches w p l (omega arith) ∙ ap (λ (n : ℕ). matches w l (first w n)) e
 
   -- R(i+1,j) is below where R(i,j) is, or is equal and the next letter of w ranks below the one it is held against
@@ -161,9 +164,9 @@ module _ (ρ : Ranking) (one : OneToOne ρ) (w : Word) (hw : Letters w) where
   less-last p l i e h =
       sign-less (value (ranked ρ) (drop p (take (suc i) w))) (value (ranked ρ) (take (length (drop p (take (suc i) w))) w))
       ∙ ap₂ (λ (u v : Word). ltb (value (ranked ρ) u) (value (ranked ρ) v)) (stretch-last w p i (omega arith) h)
-      (ap (λ (n : ℕ). take n w) (length-stretch w p (suc l) (suc i) (omega arith) h) ∙ take-suc w l 0 (omega arith))
+      (ap (λ (n : ℕ). take n w) (length-between w p (suc l) (suc i) (omega arith) h) ∙ take-suc w l 0 (omega arith))
       ∙ ap₂ ltb (value-last S (getD w i 0)) (value-last (take l w) (getD w l 0))
-      ∙ ap₂ (λ (m n : ℕ). ltb (value (ranked ρ) S * 4 + ρ m (getD w i 0)) (value (ranked ρ) (take l w) * 4 + ρ n (getD w l 0))) (length-stretch w p l i e (omega arith))
+      ∙ ap₂ (λ (m n : ℕ). ltb (value (ranked ρ) S * 4 + ρ m (getD w i 0)) (value (ranked ρ) (take l w) * 4 + ρ n (getD w l 0))) (length-between w p l i e (omega arith))
       (length-take-le l w (omega arith))
       ∙ high-less 4 (value (ranked ρ) S) (value (ranked ρ) (take l w)) (ρ l (getD w i 0)) (ρ l (getD w l 0)) (one .small l (getD w i 0) (letter-at w i hw))
       (one .small l (getD w l 0) (letter-at w l hw))
@@ -175,7 +178,7 @@ module _ (ρ : Ranking) (one : OneToOne ρ) (w : Word) (hw : Letters w) where
       against : (f : Sign → Bool) (g : ℕ → ℕ → Bool) → ((x y : ℕ) → f (sign x y) ≡ g x y) → f (R ρ w i (suc p)) ≡ g (value (ranked ρ) S) (value (ranked ρ) (take l w))
       against f g k =
           k (value (ranked ρ) S) (value (ranked ρ) (take (length S) w))
-          ∙ ap (λ (n : ℕ). g (value (ranked ρ) S) (value (ranked ρ) (take n w))) (length-stretch w p l i e (omega arith))
+          ∙ ap (λ (n : ℕ). g (value (ranked ρ) S) (value (ranked ρ) (take n w))) (length-between w p l i e (omega arith))
 
 -- whether the m-mer of w that starts at j exists in a word of n letters that t follows
 abbrev pub exists : Word → Word → ℕ → ℕ → Bool

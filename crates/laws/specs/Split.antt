@@ -3,7 +3,7 @@
 use Prim.Native.Nat.{ℕ, zero, suc, _+_, _-_, _*_, _≤_, _<_}
 use mathlib.Core.Bool.{Bool, true, false, not, _&&_, _||_, and-true, and-false, or-false, and-assoc, and-comm, true≢false}
 use mathlib.Core.List.{List, [], _∷_, _++_, List·Memᴰ, List·Memᴰ·head, List·Memᴰ·tail}
-use mathlib.Core.Path.{_≡_, refl, sym, ap, ap₂, _∙_, subst}
+use mathlib.Core.Path.{_≡_, refl, sym, ap, ap₂, _∙_}
 use native.Mathlib.Nat.{add-comm, add-assoc, add-sub-cancel-left}
 use native.Mathlib.Omega.{arith}
 use borrow.Author.Tests.{le-ltb, ne-eqb}
@@ -15,7 +15,7 @@ use Rattle.definitions.specs.Vigemins.{Form, keyed, value, below, above, window
 use Rattle.definitions.specs.Shelves.{size, antemer, postmer, begins, antemers, postmers}
 use Rattle.laws.specs.Tests.{and-l, and-cong, contrary, same-eq, same-refl}
 use Rattle.laws.specs.Filters.{any}
-use Rattle.laws.specs.Orders.{Ranking, OneToOne, ranked, keyRanking, keyed-ranked, keyed-one-to-one, value-one}
+use Rattle.laws.specs.Orders.{Ranking, OneToOne, ranked, keyed-law, value-one}
 use Rattle.laws.specs.Acceptors.{above-not}
 use Rattle.laws.specs.Minima.{length-windows, window-at, windows-drop, windows-take, windows-mer, vigemin-is}
 use Rattle.laws.specs.Counting.{count, count-cong, count-none, count-either, count-product}
@@ -182,5 +182,5 @@ module _ (ρ : Ranking) (one : OneToOne ρ) (w : Word) (hw : Letters w) (pos : 0
 pub keyed-size-sum : (key w : Word) → Letters key → Letters w → 0 < length w → (k : ℕ) → length w ≤ k
     → size (keyed key) k w ≡ total (tabulate (λ a. antemers (keyed key) w (k - length w - a) * postmers (keyed key) w a) (suc (k - length w)))
 keyed-size-sum key w hk hw pos k h =
-    subst (λ (f : Form). size f k w ≡ total (tabulate (λ a. antemers f w (k - length w - a) * postmers f w a) (suc (k - length w))))
-    (sym (keyed-ranked key)) (size-sum (keyRanking key) (keyed-one-to-one key hk) w hw pos k h)
+    keyed-law (λ f. size f k w ≡ total (tabulate (λ a. antemers f w (k - length w - a) * postmers f w a) (suc (k - length w))))
+    (λ ρ one. size-sum ρ one w hw pos k h) key hk

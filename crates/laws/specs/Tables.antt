@@ -14,13 +14,12 @@ use lib.ListN.{length, getD, take, drop, length-append, length-drop, take-append
 use lib.Seq.{take-suc, take-length, drop-length, drop-cons}
 use Rattle.definitions.specs.Lists.{filter, total}
 use Rattle.definitions.specs.Words.{Word, Letters, letters, words, same}
-use Rattle.definitions.specs.Vigemins.{windows, vigemin}
+use Rattle.definitions.specs.Vigemins.{vigemin}
 use Rattle.definitions.specs.Shelves.{shelf, antemer, postmer, begins, antemers, postmers}
 use Rattle.laws.specs.Tests.{not-or, and-l, and-r, and-i, and-cong, or-l, or-r, or-cases, test-ext, contrary, same-eq}
-use Rattle.laws.specs.Minima.{windows-mer, vigemin-is}
 use Rattle.laws.specs.Counting.{count, filter-cong, count-cong, count-none, count-first}
 use Rattle.laws.specs.Walks.{accepts, ways, ways-count}
-use Rattle.laws.specs.Orders.{Ranking, OneToOne, ranked, value-one}
+use Rattle.laws.specs.Orders.{Ranking, OneToOne, ranked, vigemin-exactly}
 use Rattle.laws.specs.States.{matches, first, state, next, longest-matches, longest-max, longest-le, matches-first, matches-short, state-matches, state-step, state-first, next-le}
 use Rattle.laws.specs.Places.{anyTo, anyTo-cong, anyTo-never, anyTo-last, anyTo-find, anyTo-there}
 use Rattle.laws.specs.Threads.{caught, oldCaught, newCaught, bad, run, threads-new}
@@ -116,10 +115,11 @@ module _ (w : Word) (hit : ℕ → ℕ → ℕ → Bool) (final : Bool) (t : Wor
   abbrev pub done : Word → Bool
   done past = not (oldCaught w hit final past t)
 
-  -- the same at a state
+  -- at a state, the letter b catches no thread
   abbrev pub fineAt : ℕ → ℕ → ℕ → Bool
   fineAt i = fine (first w i)
 
+  -- at a state, no thread is caught in t
   abbrev pub doneAt : ℕ → Bool
   doneAt i = done (first w i)
 
@@ -177,6 +177,7 @@ module _ (w : Word) (hit : ℕ → ℕ → ℕ → Bool) (final : Bool) (t : Wor
       go true k = absurd (contrary (fine past n b) f (ap not (still k)))
       go false k = refl
 
+  -- letters that were fine are so as the first ones of w that they end in
   pub allFine-match : (s : ℕ) (past : Word) (n : ℕ) → matches w s past ≡ true → allFine past n ≡ true → allFine (first w s) n ≡ true
   allFine-match zero past n e f = refl
   allFine-match (suc s) [] n e f = absurd (contrary false e refl)
@@ -244,24 +245,27 @@ module _ (ρ : Ranking) (w : Word) (final : Bool) (t : Word) where
 -- ---- antemers and postmers
 
 module _ (ρ : Ranking) (w : Word) where
-  -- antemers: no m-mer that begins in y, followed by w, comes out below w or equal to it
+  -- an antemer's letters: no m-mer that begins in y, followed by w, comes out below w or equal to it
   abbrev pub antemerOk : ℕ → ℕ → ℕ → Bool
   antemerOk = fineAt w (belowHit ρ w) true w
 
+  -- an antemer's end
   abbrev pub antemerEnd : ℕ → Bool
   antemerEnd = doneAt w (belowHit ρ w) true w
 
-  -- postmers: no m-mer comes out below w
+  -- a postmer's letters: no m-mer comes out below w
   abbrev pub postmerOk : ℕ → ℕ → ℕ → Bool
   postmerOk = fineAt w (belowHit ρ w) false []
 
+  -- a postmer's end
   abbrev pub postmerEnd : ℕ → Bool
   postmerEnd = doneAt w (belowHit ρ w) false []
 
-  -- the ways to complete state i by r letters
+  -- the ways to complete state i to an antemer by r letters
   abbrev pub antemerWays : ℕ → ℕ → ℕ
   antemerWays = ways antemerOk (next w) antemerEnd
 
+  -- the ways to complete state i to a postmer by r letters
   abbrev pub postmerWays : ℕ → ℕ → ℕ
   postmerWays = ways postmerOk (next w) postmerEnd
 
@@ -273,19 +277,24 @@ module _ (ρ : Ranking) (w : Word) where
   abbrev pub shelfOk : Bool × ℕ → ℕ → ℕ → Bool
   shelfOk s = postmerOk (s .1)
 
+  -- after a letter
   abbrev pub shelfStep : Bool × ℕ → ℕ → Bool × ℕ
   shelfStep s b = (s .0 || eqb (s .1) (length w), next w (s .1) b)
 
+  -- w was met, or is met at the end
   abbrev pub shelfEnd : Bool × ℕ → Bool
   shelfEnd s = s .0 || eqb (s .1) (length w)
 
+  -- the ways to complete a state to a word of the shelf
   abbrev pub shelfWays : Bool × ℕ → ℕ → ℕ
   shelfWays = ways shelfOk shelfStep shelfEnd
 
 module _ (ρ : Ranking) (one : OneToOne ρ) (w : Word) (hw : Letters w) where
+  -- a word is an antemer exactly if it is accepted from state 0
   pub antemer-accepted : (y : Word) → Letters y → antemer (ranked ρ) w y ≡ accepts (antemerOk ρ w) (next w) (antemerEnd ρ w) zero y
   antemer-accepted y h = antemer-threads ρ one w hw y h ∙ accepts-threads w (belowHit ρ w) true w y
 
+  -- a word is a postmer exactly if it is accepted from state 0
   pub postmer-accepted : (z : Word) → 0 < length w → Letters z → postmer (ranked ρ) w z ≡ accepts (postmerOk ρ w) (next w) (postmerEnd ρ w) zero z
   postmer-accepted z m h = postmer-threads ρ one w hw z m h ∙ accepts-threads w (belowHit ρ w) false [] z
 
@@ -363,8 +372,7 @@ module _ (ρ : Ranking) (one : OneToOne ρ) (w : Word) (hw : Letters w) (m : 0 <
   -- a word is on the shelf exactly if it is accepted
   pub shelf-accepted : (x : Word) → Letters x → same (vigemin (ranked ρ) (length w) x) w ≡ accepts (shelfOk ρ w) (shelfStep ρ w) (shelfEnd ρ w) (false, zero) x
   shelf-accepted x h =
-      vigemin-is (ranked ρ) (windows (length w) x) w m
-      (λ u k e. let d = windows-mer (length w) x h k in value-one ρ one u w (d .1) hw (d .0) e)
+      vigemin-exactly ρ one w hw m x h
       ∙ ap₂ (λ (s t : Bool). s && t) (postmer-accepted ρ one w hw x m h) (holds-threads w x m ∙ threads-new w none true x [])
       ∙ ap (λ (i : ℕ). accepts (postmerOk ρ w) (next w) (postmerEnd ρ w) i x && run w none true [] x []) (sym start)
       ∙ sym (shelf-run ρ w m false [] x)

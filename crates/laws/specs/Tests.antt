@@ -11,6 +11,7 @@ use Rattle.definitions.specs.Words.{Word, same}
 
 -- ---- and, or
 
+-- what a joined test says, and how it is met
 pub and-l : (a b : Bool) → (a && b) ≡ true → a ≡ true
 and-l true b e = refl
 and-l false b e = e
@@ -62,11 +63,13 @@ pub decided : (a : Bool) → (a ≡ true) ⊎ (a ≡ false)
 decided true = inl refl
 decided false = inr refl
 
+-- a test is not both
 pub contrary : (a : Bool) → a ≡ true → a ≡ false → ⊥
 contrary a p q = true≢false (sym p ∙ q)
 
 -- ---- one word
 
+-- the test of one word says that they are one
 pub same-eq : (u v : Word) → same u v ≡ true → u ≡ v
 same-eq [] [] e = refl
 same-eq [] (b ∷ v) e = absurd (true≢false (sym e))
@@ -74,6 +77,7 @@ same-eq (a ∷ u) [] e = absurd (true≢false (sym e))
 same-eq (a ∷ u) (b ∷ v) e =
     ap₂ (λ (x : ℕ) (y : Word). x ∷ y) (eqb-true a b (and-l (eqb a b) (same u v) e)) (same-eq u v (and-r (eqb a b) (same u v) e))
 
+-- and holds of a word and itself
 pub same-refl : (u : Word) → same u u ≡ true
 same-refl [] = refl
 same-refl (a ∷ u) = and-i (eqb a a) (same u u) (eq-eqb a a refl) (same-refl u)
