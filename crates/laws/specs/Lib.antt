@@ -1,3 +1,19 @@
+-- What is proved of the definitions, once. docs/LAWS.md lists the main theorems; here is what each file is about, in the order in
+-- which one builds on another. ρ is a ranking of the letters for each place, one-to-one at each; the keyed form goes by such a one.
+--
+-- Tests, Places, Filters    tests joined; tests at the places below n; what is chosen from lists and from all words of n + 1 letters
+-- Numbers                   words and numbers: one-to-one, in order, ⊕ as XOR, the m-mer at a place, letters and bytes
+-- Minima, Scans             the leftmost least of any values; windows; the vigemin's position; the positions of a scan
+-- Counting, Walks           how many words pass a test; tables by states; the r-th word, the place of a word, the next word
+-- Catalogue                 shelves: increasing, no word twice, each k-mer on exactly one; pages in a row
+-- Orders                    forms that go letter by letter; the keyed form; the vigemin is w exactly if
+-- Split                     the size is the sum of antemers times postmers
+-- States, Threads           the states of a word w; reading a word beside w with all m-mers at once
+-- Acceptors, Tables, Marks  postmers, antemers and shelf words accepted by states; their tables; walking a shelf
+-- Prefixes, Rules           counts by shared prefix; document 01's R, Σ and T
+-- ByPrefix, Antemers, Postmers   each of document 01's rules, by name
+-- Print                     four errors of the printed rules, each with a computed case
+-- Refusals                  the refusal given is met, and the lowest where the numbers increase
 pub mod Tests
 pub mod Places
 pub mod Filters
@@ -5,15 +21,15 @@ pub mod Numbers
 pub mod Minima
 pub mod Scans
 pub mod Counting
-pub mod Catalogue
 pub mod Walks
+pub mod Catalogue
 pub mod Orders
+pub mod Split
 pub mod States
 pub mod Threads
 pub mod Acceptors
 pub mod Tables
 pub mod Marks
-pub mod Split
 pub mod Prefixes
 pub mod Rules
 pub mod ByPrefix
