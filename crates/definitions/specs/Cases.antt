@@ -8,9 +8,7 @@ use lib.Dec.{eqb}
 use lib.ListN.{length, replicate}
 use Rattle.definitions.specs.Lists.{all, tabulate}
 use Rattle.definitions.specs.Words.{words, same, val, spelled, text}
-use Rattle.definitions.specs.Vigemins.{keyed}
-use Rattle.definitions.specs.Shelves.{shelf}
-use Rattle.definitions.specs.Outcomes.{sized, worked, paged, scanned, sizeAnswer, worksheetAnswer, pageAnswer, pageWritten, scanAnswer}
+use Rattle.definitions.specs.Outcomes.{sizeOutcome, worksheetOutcome, pageOutcome, scanOutcome, sizeAnswer, worksheetAnswer, pageAnswer, scanAnswer}
 
 -- the four capitals as bytes, so that a text can be read
 abbrev A : ℕ
@@ -31,6 +29,7 @@ pub record Setting : Type 0 where
   pub key : List ℕ
   pub word : List ℕ
 
+-- a setting, written in a line
 abbrev at : ℕ → List ℕ → List ℕ → Setting
 at k key w = record { k = k; key = key; word = w }
 
@@ -57,19 +56,25 @@ numbered f s = f (s .k) (length (s .key)) (val (spelled (s .key))) (val (spelled
 abbrev rows : List ℕ → List ℕ
 rows ns = ns ++ replicate (31 - length ns) 0
 
--- the test of one case. A scan is lent one entry too many, which must stay as it was
+-- the test of one case. A shelf is asked for as a page with one entry of room too many, and a scan is lent exactly its room, and then one
+-- entry more: what is too many must stay as it was
 unfoldable pub holds : Case → Bool
-unfolding sized worked paged scanned sizeAnswer worksheetAnswer pageAnswer pageWritten scanAnswer
-holds (sizeIs s n) = let o = numbered sized s in eqb (o .refusal) 0 && eqb (o .count) n
-holds (rowsAre s ante post) = let o = numbered worked s in eqb (o .refusal) 0 && same (o .antemers) (rows ante) && same (o .postmers) (rows post)
-holds (shelfIs s xs) = same (map val (shelf (keyed (spelled (s .key))) (s .k) (spelled (s .word)))) xs
+unfolding sizeOutcome worksheetOutcome pageOutcome scanOutcome sizeAnswer worksheetAnswer pageAnswer scanAnswer
+holds (sizeIs s n) = let o = numbered sizeOutcome s in eqb (o .refusal) 0 && eqb (o .count) n
+holds (rowsAre s ante post) =
+    let o = numbered worksheetOutcome s in
+    eqb (o .refusal) 0 && same (o .antemers) (rows ante) && same (o .postmers) (rows post)
+holds (shelfIs s xs) =
+    let o = numbered pageOutcome s 0 (replicate (length xs) 9 ++ (9 ∷ [])) in
+    eqb (o .refusal) 0 && eqb (o .written) (length xs) && same (o .room) (xs ++ (9 ∷ []))
 holds (pageIs s start room r n after) =
-    let o = numbered paged s start room in
+    let o = numbered pageOutcome s start room in
     eqb (o .refusal) r && eqb (o .written) n && same (o .room) after
 holds (scanIs t k m key ps) =
-    let o = scanned k m key t (map (λ (p : ℕ). 9) ps ++ (9 ∷ [])) in
-    eqb (o .refusal) 0 && eqb (o .place) 0 && eqb (o .windows) (length ps) && same (o .room) (ps ++ (9 ∷ []))
-holds (sizeRefused k m key w r) = let o = sized k m key w in eqb (o .refusal) r && eqb (o .count) 0
+    let o = scanOutcome k m key t (replicate (length ps) 9) in
+    let more = scanOutcome k m key t (replicate (length ps) 9 ++ (9 ∷ [])) in
+    eqb (o .refusal) 0 && eqb (o .place) 0 && eqb (o .windows) (length ps) && same (o .room) ps && same (more .room) (ps ++ (9 ∷ []))
+holds (sizeRefused k m key w r) = let o = sizeOutcome k m key w in eqb (o .refusal) r && eqb (o .count) 0
 
 -- W1 to W12. "Any key below 16" runs through all sixteen
 abbrev pub table : List Case
@@ -79,7 +84,7 @@ table =
     ∷ sizeIs (at 2 (C ∷ []) (C ∷ [])) 7
     ∷ sizeIs (at 2 (C ∷ []) (G ∷ [])) 1
     ∷ sizeIs (at 2 (C ∷ []) (T ∷ [])) 3
-    -- W2: k=3, key AA, word GG: size 3; antemers 1, 1; postmers 1, 2
+    -- W2: k=3, key AA, word GG: size 3; rows 0 and 1: antemers 1, 1; postmers 1, 2
     ∷ sizeIs (at 3 (A ∷ A ∷ []) (G ∷ G ∷ [])) 3
     ∷ rowsAre (at 3 (A ∷ A ∷ []) (G ∷ G ∷ [])) (1 ∷ 1 ∷ []) (1 ∷ 2 ∷ [])
     -- W3: k=4, key TAA, word AAA: size 4; antemers 1, 0; postmers 1, 4
@@ -107,5 +112,5 @@ table =
 
 -- every case of the table holds
 pub table-holds : all holds table ≡ true
-unfolding holds sized worked paged scanned sizeAnswer worksheetAnswer pageAnswer pageWritten scanAnswer
+unfolding holds sizeOutcome worksheetOutcome pageOutcome scanOutcome sizeAnswer worksheetAnswer pageAnswer scanAnswer
 table-holds = refl

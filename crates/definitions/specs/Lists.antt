@@ -35,7 +35,7 @@ module _ {A : Type 0} where
   abbrev pub over : List A → List A → List A
   over new old = new ++ drop (length new) old
 
--- the sum of some numbers
+-- the sum of some numbers (the laws speak of it)
 abbrev pub total : List ℕ → ℕ
 total [] = zero
 total (n ∷ l) = n + total l

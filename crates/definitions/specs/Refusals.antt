@@ -1,11 +1,10 @@
--- The numbers of refusal (document 01, "Numbers of refusal"): each number with its test, once.
+-- The numbers of refusal (document 01, "Numbers of refusal"): each number with its test, once. 10 is the printer's and is not here.
 -- Assumes nothing.
 use Prim.Native.Nat.{ℕ, zero, _-_, _^_}
 use mathlib.Core.Bool.{Bool, cond, not, _||_}
 use mathlib.Core.List.{List, [], _∷_}
 use lib.Dec.{ltb, leb, eqb}
-use lib.ListN.{length}
-use Rattle.definitions.specs.Lists.{firstPlace}
+use Rattle.definitions.specs.Lists.{all, firstPlace}
 use Rattle.definitions.specs.Words.{isLetter}
 
 infix 45 _when_
@@ -23,9 +22,9 @@ abbrev pub refusal : List Ground → ℕ
 refusal [] = zero
 refusal (g ∷ gs) = cond (g .met) (g .number) (refusal gs)
 
--- the place of the first byte that is no letter
-abbrev pub badPlace : List ℕ → ℕ
-badPlace s = firstPlace (λ b. not (isLetter b)) s
+-- the place of the first byte that is no letter; the length where there is none
+abbrev pub firstBad : List ℕ → ℕ
+firstBad s = firstPlace (λ b. not (isLetter b)) s
 
 -- 1: a length is 0 or above 31
 abbrev pub badLength : ℕ → Ground
@@ -44,25 +43,25 @@ abbrev pub badWord : ℕ → ℕ → Ground
 badWord n x = 4 when leb (4 ^ n) x
 
 -- 5: the sequence has more than 65,536 letters
-abbrev pub badSequence : List ℕ → Ground
-badSequence s = 5 when ltb 65536 (length s)
+abbrev pub badSequence : ℕ → Ground
+badSequence n = 5 when ltb 65536 n
 
 -- 6: a byte is no letter
 abbrev pub badLetter : List ℕ → Ground
-badLetter s = 6 when ltb (badPlace s) (length s)
+badLetter s = 6 when not (all isLetter s)
 
 -- 7: the room is smaller than what must be written
-abbrev pub badRoom : ℕ → List ℕ → Ground
-badRoom need room = 7 when ltb (length room) need
+abbrev pub badRoom : ℕ → ℕ → Ground
+badRoom need room = 7 when ltb room need
 
 -- 8: the page's start is above the size
 abbrev pub badStart : ℕ → ℕ → Ground
 badStart size start = 8 when ltb size start
 
 -- 9: the plain counter is asked with k − m above 10
-abbrev pub badDepth : ℕ → ℕ → Ground
-badDepth k m = 9 when ltb 10 (k - m)
+abbrev pub badCounter : ℕ → ℕ → Ground
+badCounter k m = 9 when ltb 10 (k - m)
 
 -- what stands beside a refusal: the place of the bad letter beside 6, and 0 beside any other
 abbrev pub placeBeside : ℕ → List ℕ → ℕ
-placeBeside r s = cond (eqb r 6) (badPlace s) zero
+placeBeside r s = cond (eqb r 6) (firstBad s) zero

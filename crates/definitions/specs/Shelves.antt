@@ -10,7 +10,7 @@ use Rattle.definitions.specs.Lists.{filter, all, tabulate}
 use Rattle.definitions.specs.Words.{Word, words, same}
 use Rattle.definitions.specs.Vigemins.{Form, below, above, windows, vigemin}
 
--- the shelf of w: all k-mers whose vigemin is w, in alphabet order
+-- the shelf of w: all k-mers whose vigemin is w, in increasing order of the k-mer itself, not of its keyed form
 abbrev pub shelf : Form → ℕ → Word → List Word
 shelf f k w = filter (λ x. same (vigemin f (length w) x) w) (words k)
 
@@ -22,11 +22,11 @@ size f k w = length (shelf f k w)
 abbrev pub page : Form → ℕ → Word → ℕ → ℕ → List Word
 page f k w start n = take n (drop start (shelf f k w))
 
--- an antemer y: each m-mer of y followed by w, except the last, is strictly above w (they are those that begin in y)
+-- an antemer y: each m-mer of y followed by w, except the last, is strictly above w once both are keyed (these begin in y)
 abbrev pub antemer : Form → Word → Word → Bool
 antemer f w y = all (above f w) (take (length y) (windows (length w) (y ++ w)))
 
--- a postmer z: no m-mer of z is below w
+-- a postmer z: no m-mer of z is below w once both are keyed; so a word shorter than m always is one
 abbrev pub postmer : Form → Word → Word → Bool
 postmer f w z = all (λ v. not (below f w v)) (windows (length w) z)
 
@@ -42,11 +42,11 @@ antemers f w a = length (filter (antemer f w) (words a))
 abbrev pub postmers : Form → Word → ℕ → ℕ
 postmers f w a = length (filter (λ z. begins w z && postmer f w z) (words (length w + a)))
 
--- the count in row a of a column: 0 in a row that is not used
+-- row a of a column: its count where the row is used, else 0
 abbrev pub row : Bool → (ℕ → ℕ) → ℕ → ℕ
 row true count a = count a
 row false count a = zero
 
--- a column of the worksheet: 31 rows, of which those up to k − m are used
+-- a column of the worksheet: 31 rows, of which those above k − m hold 0
 abbrev pub column : ℕ → ℕ → (ℕ → ℕ) → List ℕ
 column k m count = tabulate (λ a. row (leb (m + a) k) count a) 31

@@ -1,7 +1,7 @@
 -- The order of words under a key, the vigemin of a k-mer and the scan of a sequence (document 01, "Words and order" and "Pages
 -- and scans"; source 000, Definition 1).
--- The vigemin of a k-mer is its m-mer v with the least v⊕key, the leftmost of equals. All below is said of any form: the keyed
--- form of v is v⊕key.
+-- The vigemin of a k-mer is its m-mer v with the least v⊕key, the leftmost of equals. The keyed form of v is v⊕key; what follows is
+-- said of any form of words, so that another order can take the key's place.
 -- Assumes nothing.
 use Prim.Native.Nat.{ℕ, zero, suc, _+_}
 use mathlib.Core.Bool.{Bool, cond}
@@ -23,11 +23,11 @@ keyed key v = v ⊕ key
 abbrev pub value : Form → Word → ℕ
 value f v = val (f v)
 
--- whether v is below w, once both are keyed
+-- whether v, the last word named, is below w, once both are keyed
 abbrev pub below : Form → Word → Word → Bool
 below f w v = ltb (value f v) (value f w)
 
--- whether v is strictly above w, once both are keyed
+-- whether v, the last word named, is strictly above w, once both are keyed
 abbrev pub above : Form → Word → Word → Bool
 above f w v = ltb (value f w) (value f v)
 

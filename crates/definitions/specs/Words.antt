@@ -18,7 +18,7 @@ letters = 0 ∷ 1 ∷ 2 ∷ 3 ∷ []
 abbrev pub Word : Type 0
 Word = List ℕ
 
--- each of some digits is below the base
+-- each of some digits is below the base (the laws ask it)
 abbrev pub Digits : ℕ → List ℕ → Type 0
 Digits base [] = Unit {0}
 Digits base (d ∷ ds) = (d < base) × Digits base ds
@@ -27,7 +27,7 @@ Digits base (d ∷ ds) = (d < base) × Digits base ds
 abbrev pub Letters : Word → Type 0
 Letters = Digits 4
 
--- x is a k-mer: k letters, each one of the four
+-- x is a k-mer: k letters, each one of the four (the laws speak of these)
 abbrev pub Mer : ℕ → Word → Type 0
 Mer k x = (length x ≡ k) × Letters x
 
@@ -36,12 +36,12 @@ abbrev pub spread : List ℕ → List Word → List Word
 spread [] ws = []
 spread (a ∷ bs) ws = map (λ (v : Word). a ∷ v) ws ++ spread bs ws
 
--- all words of n letters, in alphabet order
+-- all words of n letters, in alphabet order, which is that of their numbers
 abbrev pub words : ℕ → List Word
 words zero = [] ∷ []
 words (suc n) = spread letters (words n)
 
--- whether two words are one
+-- whether two words are equal
 abbrev pub same : Word → Word → Bool
 same [] [] = true
 same [] (b ∷ v) = false
@@ -62,7 +62,7 @@ digits base (suc n) x = x / base ^ n % base ∷ digits base n x
 abbrev pub val : Word → ℕ
 val = number 4
 
--- the word of n letters that has a number
+-- the word of n letters that has a number below 4^n
 abbrev pub word : ℕ → ℕ → Word
 word = digits 4
 

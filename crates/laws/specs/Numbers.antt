@@ -15,7 +15,7 @@ use lib.ListN.{length, take, drop, getD, length-append}
 use Rattle.definitions.specs.Lists.{all, tabulate, firstPlace}
 use Rattle.definitions.specs.Words.{Word, letters, Digits, Letters, number, digits, val, word, sum, _⊕_, capitals, letterOf, isLetter, spelled, text}
 use Rattle.definitions.specs.Vigemins.{keyed, value, below}
-use Rattle.definitions.specs.Refusals.{badPlace}
+use Rattle.definitions.specs.Refusals.{firstBad}
 use Rattle.laws.specs.Tests.{and-l, and-r, and-i, test-ext}
 
 -- ---- digits and their number
@@ -310,5 +310,5 @@ text-letters (a ∷ x) h =
     and-i (isLetter (getD capitals a 0)) (all isLetter (text x)) (each-letter (λ c. isLetter (getD capitals c 0)) refl (h .0)) (text-letters x (h .1))
 
 -- a text has a bad place exactly if it is not all letters
-pub bad-none : (t : List ℕ) → ltb (badPlace t) (length t) ≡ not (all isLetter t)
+pub bad-none : (t : List ℕ) → ltb (firstBad t) (length t) ≡ not (all isLetter t)
 bad-none t = firstPlace-all isLetter t
