@@ -2,13 +2,13 @@
 -- beside w finds.
 -- Assumes nothing.
 use Prim.Native.Nat.{ℕ, zero, suc, _+_, _≤_, _<_}
-use mathlib.Core.Bool.{Bool, true, false, not, _&&_, _||_, and-true, and-false, or-false}
+use mathlib.Core.Bool.{Bool, true, false, not, _&&_, _||_, and-false}
 use mathlib.Core.List.{List, [], _∷_, _++_, append-nil}
 use mathlib.Core.Path.{_≡_, refl, sym, ap, ap₂, _∙_}
 use native.Mathlib.Nat.{zero-add, add-zero}
 use native.Mathlib.Numerals.{add-one}
 use native.Mathlib.Omega.{arith}
-use borrow.Author.Tests.{leb-true, leb-false, le-leb, lt-leb, ltb-true, ltb-false, lt-ltb, le-ltb, eqb-true, eqb-false}
+use borrow.Author.Tests.{leb-true, leb-false, le-leb, lt-leb}
 use lib.Dec.{ltb, leb, eqb, leb·zero, leb·suc-zero, leb·suc-suc}
 use lib.ListN.{length, getD, take, drop, length-take, length-append}
 use lib.Seq.{length-take-le, getD-drop, drop-drop}
@@ -17,10 +17,10 @@ use Rattle.definitions.specs.Words.{Word, Letters, val, same}
 use Rattle.definitions.specs.Vigemins.{value, below, above, windows}
 use Rattle.definitions.specs.Shelves.{antemer, postmer}
 use Rattle.laws.specs.Tests.{and-r, and-i, not-or, not-and, test-ext, same-eq}
-use Rattle.laws.specs.Numbers.{letters-take, letters-append}
+use Rattle.laws.specs.Numbers.{atMost, letters-take, letters-append}
 use Rattle.laws.specs.Filters.{any}
 use Rattle.laws.specs.Minima.{windows-none}
-use Rattle.laws.specs.Orders.{Ranking, OneToOne, ranked, rankedFrom, atMost, ranked-atMost}
+use Rattle.laws.specs.Orders.{Ranking, OneToOne, ranked, rankedFrom, ranked-atMost, above-not}
 use Rattle.laws.specs.Threads.{caught, newCaught}
 
 all-put : {A : Type 0} (p : A → Bool) (t : Bool) (a : A) (l : List A) → all p (put t a l) ≡ ((not t || p a) && all p l)
@@ -31,20 +31,15 @@ any-put : {A : Type 0} (p : A → Bool) (t : Bool) (a : A) (l : List A) → any 
 any-put p true a l = refl
 any-put p false a l = refl
 
--- neither below nor equal is above
-pub above-not : (x y : ℕ) → ltb y x ≡ not (atMost true x y)
-above-not x y = go (ltb x y) (eqb x y) refl refl
-  where
-    go : (s t : Bool) → ltb x y ≡ s → eqb x y ≡ t → ltb y x ≡ not (s || (true && t))
-    go true t p q = le-ltb y x (omega (arith, ltb-true x y p))
-    go false true p q = le-ltb y x (omega (arith, eqb-true x y q))
-    go false false p q = lt-ltb y x (omega (arith, ltb-false x y p, eqb-false x y q))
-
 drop-head : (l : ℕ) (w : Word) {a : ℕ} {u : Word} → drop l w ≡ a ∷ u → getD w l 0 ≡ a
 drop-head l w e = sym (ap (λ (i : ℕ). getD w i 0) (add-zero l)) ∙ sym (getD-drop l w 0 0) ∙ ap (λ (x : Word). getD x 0 0) e
 
 drop-tail : (l : ℕ) (w : Word) {a : ℕ} {u : Word} → drop l w ≡ a ∷ u → drop (suc l) w ≡ u
 drop-tail l w e = ap (λ (i : ℕ). drop i w) (sym (add-one l)) ∙ sym (drop-drop 1 l w) ∙ ap (drop 1) e
+
+atMost-zero : (final : Bool) → atMost final 0 0 ≡ final
+atMost-zero false = refl
+atMost-zero true = refl
 
 -- a letter hits at place l, with r letters left from it on, where the m-mer exists and the letter ranks below w's
 abbrev pub belowHit : Ranking → Word → ℕ → ℕ → ℕ → Bool
@@ -68,7 +63,7 @@ module _ (ρ : Ranking) (one : OneToOne ρ) (w : Word) (final : Bool) where
   pub caught-value : (l : ℕ) (u z : Word) → drop l w ≡ u → Letters u → Letters z → l + length u ≡ length w
       → caught w (belowHit ρ w) final l u z
       ≡ (leb (length u) (length z) && atMost final (val (rankedFrom ρ l (take (length u) z))) (val (rankedFrom ρ l u)))
-  caught-value l [] z e hu hz n = sym (ap (λ (t : Bool). t && (final && true)) (leb·zero (length z)) ∙ and-true final)
+  caught-value l [] z e hu hz n = sym (ap (λ (t : Bool). t && atMost final 0 0) (leb·zero (length z)) ∙ atMost-zero final)
   caught-value l (a ∷ u) [] e hu hz n = sym (ap (λ (t : Bool). t && atMost final 0 (val (rankedFrom ρ l (a ∷ u)))) (leb·suc-zero (length u)))
   caught-value l (a ∷ u) (b ∷ z) e hu hz n =
       ap (λ (t : Bool). belowHit ρ w l b (suc (length z)) || (eqb b a && t)) (caught-value (suc l) u z (drop-tail l w e) (hu .1) (hz .1) (omega arith))
@@ -113,7 +108,7 @@ module _ (ρ : Ranking) (one : OneToOne ρ) (w : Word) (hw : Letters w) where
       here =
           sym (ap not
           (ap (λ (y : Word). caught w (belowHit ρ w) false zero w (b ∷ y)) (append-nil z) ∙ caught-value ρ one w false zero w (b ∷ z) refl hw hz (zero-add (length w))
-          ∙ ap (λ (t : Bool). leb (length w) (suc (length z)) && t) (or-false (below (ranked ρ) w (take (length w) (b ∷ z)))))
+          )
           ∙ not-and (leb (length w) (suc (length z))) (below (ranked ρ) w (take (length w) (b ∷ z))))
 
   -- the antemers: no thread that begins in y is caught, below w or equal to it, in y followed by w

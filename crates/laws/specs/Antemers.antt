@@ -21,9 +21,9 @@ use Rattle.laws.specs.Orders.{Ranking, OneToOne, ranked}
 use Rattle.laws.specs.States.{matches-short}
 use Rattle.laws.specs.Acceptors.{belowHit}
 use Rattle.laws.specs.Tables.{through-fine, antemerOk, antemerEnd, antemerWays, antemer-accepted}
-use Rattle.laws.specs.Prefixes.{shared, sharing, sharingFrom, shared-le, shared-from, sharing-split, sharing-short, completions}
+use Rattle.laws.specs.Prefixes.{shared, sharing, sharingFrom, shared-le, shared-from, sharing-split, sharing-short, sharing-whole, completions}
 use Rattle.laws.specs.Rules.{Σ, banned, byPrefix, exists, uncaught, fine-banned}
-use Rattle.laws.specs.ByPrefix.{banned-cong, sharingFrom-cong, byPrefix-free, accepted-rule, accepted-whole}
+use Rattle.laws.specs.ByPrefix.{banned-cong, sharingFrom-cong, byPrefix-free, accepted-rule}
 
 -- no antemer shares all m letters with w
 pub antemers-full : (f : Form) (w : Word) (n : ℕ) → 0 < length w → sharing w (antemer f w) (length w) n ≡ 0
@@ -46,6 +46,10 @@ antemers-full f w n pos = count-cong _ (λ y. false) n (λ y k. go y (eqb (share
         (same-eq (take (length w) y) (take (length w) w) (sym (shared-from w y (length w) (omega arith)) ∙ le-leb (length w) (shared w y) (omega arith)) ∙ take-length w))
     go y false e = and-false (antemer f w y)
 
+-- those of length i that share all i letters: one or none, tested directly
+pub antemers-whole : (f : Form) (w : Word) → Letters w → (i : ℕ) → i ≤ length w → sharing w (antemer f w) i i ≡ cond (antemer f w (take i w)) 1 0
+antemers-whole f w hw i h = sharing-whole w (antemer f w) i hw h
+
 module _ (ρ : Ranking) (one : OneToOne ρ) (w : Word) (hw : Letters w) where
   -- where some R(i',j) with 2 ≤ j ≤ i' ≤ i is below, no antemer shares i letters with w
   pub antemers-banned : (i n : ℕ) → i ≤ length w → banned ρ w (λ j. true) i ≡ true → sharing w (antemer (ranked ρ) w) i n ≡ 0
@@ -54,17 +58,13 @@ module _ (ρ : Ranking) (one : OneToOne ρ) (w : Word) (hw : Letters w) where
       go : (t : Bool) → leb i n ≡ t → sharingFrom w (antemer (ranked ρ) w) i n ≡ 0
       go true k =
           let l : i + (n - i) ≡ n = omega (arith, leb-true i n k) in
-          sharingFrom-cong w (antemer (ranked ρ) w) (uncaught ρ one w hw true w) (antemer-accepted ρ one w hw) i n
-          ∙ ap (sharingFrom w (uncaught ρ one w hw true w) i) (sym l)
+          sharingFrom-cong w (antemer (ranked ρ) w) (uncaught ρ w true w) (antemer-accepted ρ one w hw) i n
+          ∙ ap (sharingFrom w (uncaught ρ w true w) i) (sym l)
           ∙ completions w hw (antemerOk ρ w) (antemerEnd ρ w) i (n - i) h
           ∙ ap (λ (x : Bool). cond x (antemerWays ρ w i (n - i)) 0)
           (through-fine w (belowHit ρ w) true w i (n - i) h ∙ fine-banned ρ one w hw true w i (n - i) h (omega arith)
           ∙ ap not (banned-cong ρ w (exists w w (i + (n - i))) i (λ j. true) (λ q j. le-leb (length w + suc (suc q)) (suc (i + (n - i) + length w)) (omega arith)) ∙ e))
       go false k = sharing-short w (antemer (ranked ρ) w) i n (leb-false i n k)
-
-  -- those of length i that share all i letters: one or none, tested directly
-  pub antemers-whole : (i : ℕ) → i ≤ length w → sharing w (antemer (ranked ρ) w) i i ≡ cond (antemer (ranked ρ) w (take i w)) 1 0
-  antemers-whole = accepted-whole ρ one w hw true w (antemer (ranked ρ) w) (antemer-accepted ρ one w hw)
 
   -- otherwise, by the letter that follows the shared ones
   pub antemers-rule : (i n : ℕ) → i < length w → i < n

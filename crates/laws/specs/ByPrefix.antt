@@ -8,18 +8,15 @@ use mathlib.Core.Path.{_≡_, refl, sym, ap, ap₂, fun-ext, _∙_}
 use native.Mathlib.Nat.{zero-mul, suc-mul}
 use native.Mathlib.Omega.{arith}
 use lib.Dec.{leb, eqb}
-use lib.ListN.{length, take}
+use lib.ListN.{length}
 use Rattle.definitions.specs.Lists.{put, filter, total}
 use Rattle.definitions.specs.Words.{Word, Letters, letters}
-use Rattle.laws.specs.Numbers.{letters-take}
 use Rattle.laws.specs.Counting.{count, count-cong}
 use Rattle.laws.specs.Orders.{Ranking, OneToOne}
 use Rattle.laws.specs.States.{matches, first}
-use Rattle.laws.specs.Places.{anyTo-cong, anyTo-never, firstTo-none, firstTo-cong}
-use Rattle.laws.specs.Acceptors.{belowHit}
-use Rattle.laws.specs.Tables.{fineAt, doneAt}
-use Rattle.laws.specs.Prefixes.{shared, sharing, sharingFrom, sharing-all, prefix-whole}
-use Rattle.laws.specs.Rules.{isLess, isEqual, R, Σ, isLetter, banned, restrained, T, byPrefix, exists, uncaught, sharing-rule}
+use Rattle.laws.specs.Places.{anyTo-cong, anyTo-none, firstTo-none, firstTo-cong}
+use Rattle.laws.specs.Prefixes.{shared, sharing, sharingFrom, sharing-all}
+use Rattle.laws.specs.Rules.{isLess, isEqual, R, Σ, own, banned, restrained, T, byPrefix, exists, uncaught, sharing-rule}
 
 -- one number for each entry that a test chooses
 pub total-chosen : (p : ℕ → Bool) (c : ℕ) (l : List ℕ) → total (map (λ b. cond (p b) c 0) l) ≡ length (filter p l) * c
@@ -59,8 +56,8 @@ module _ (ρ : Ranking) (w : Word) (c : ℕ → Bool) (i : ℕ) where
   byPrefix-cong d h =
       parts (banned ρ w d i) (restrained ρ w d i) (T ρ w d i) (banned-cong d h)
       (λ b. ap (λ (t : Bool). Σ ρ w (suc i) b && not t)
-      (anyTo-cong i (λ q k. ap (λ (t : Bool). t && isEqual (R ρ w i (suc (suc q))) && not (Σ ρ w (i - q) b || isLetter ρ w (i - q) b)) (h q k))))
-      (λ b. ap (λ (n : ℕ). suc (suc n)) (firstTo-cong i _ _ (λ q k. ap (λ (t : Bool). t && isEqual (R ρ w i (suc (suc q))) && isLetter ρ w (i - q) b) (h q k))))
+      (anyTo-cong i (λ q k. ap (λ (t : Bool). t && isEqual (R ρ w i (suc (suc q))) && not (Σ ρ w (i - q) b || own w (i - q) b)) (h q k))))
+      (λ b. ap (λ (n : ℕ). suc (suc n)) (firstTo-cong i _ _ (λ q k. ap (λ (t : Bool). t && isEqual (R ρ w i (suc (suc q))) && own w (i - q) b) (h q k))))
 
 module _ (ρ : Ranking) (w : Word) (c : ℕ → Bool) (i : ℕ) where
   -- where no m-mer that starts at a place from 2 to i + 1 counts, a letter of Σ(i+1) follows, and then any word that passes
@@ -70,30 +67,23 @@ module _ (ρ : Ranking) (w : Word) (c : ℕ → Bool) (i : ℕ) where
       let u : suc (suc i) - suc (suc i) ≡ 0 = omega arith in
       let v : suc n - suc (suc i) ≡ r = omega arith in
       byPrefix-cong ρ w c i (λ j. false) h (sharingFrom w p) n
-      ∙ parts ρ w (λ j. false) i false (Σ ρ w (suc i)) (λ b. suc (suc i)) (anyTo-cong i (λ i′ k. anyTo-never i′) ∙ anyTo-never i)
-      (λ b. ap (λ (t : Bool). Σ ρ w (suc i) b && not t) (anyTo-never i) ∙ and-true (Σ ρ w (suc i) b))
+      ∙ parts ρ w (λ j. false) i false (Σ ρ w (suc i)) (λ b. suc (suc i)) (anyTo-none i (λ i′ k. anyTo-none i′ (λ q l. refl)))
+      (λ b. ap (λ (t : Bool). Σ ρ w (suc i) b && not t) (anyTo-none i (λ q k. refl)) ∙ and-true (Σ ρ w (suc i) b))
       (λ b. ap (λ (l : ℕ). suc (suc l)) (firstTo-none i (λ q. false) (λ l k. refl))) (sharingFrom w p) n
       ∙ total-chosen (Σ ρ w (suc i)) (sharingFrom w p (suc (suc i) - suc (suc i)) (suc n - suc (suc i))) letters
       ∙ ap (λ (x : ℕ). length (filter (Σ ρ w (suc i)) letters) * x) (ap₂ (sharingFrom w p) u v ∙ sharing-all w p r)
 
 module _ (ρ : Ranking) (one : OneToOne ρ) (w : Word) (hw : Letters w) (final : Bool) (t : Word) (p : Word → Bool)
-    (agree : (y : Word) → Letters y → p y ≡ uncaught ρ one w hw final t y) where
+    (agree : (y : Word) → Letters y → p y ≡ uncaught ρ w final t y) where
   -- the rule for the words that pass such a test and share exactly i letters with w
   pub accepted-rule : (counts : ℕ → Bool) (i n : ℕ) → i ≤ length w → i < n → (matches w (length w) (first w i) && final) ≡ false → length w ≤ n + length t
       → ((q : ℕ) → q < i → exists w t n (suc (suc q)) ≡ counts (suc (suc q)))
       → sharing w p i n ≡ byPrefix ρ w counts (sharingFrom w p) i n
   accepted-rule counts i n h k off long same =
       let e : i + suc (n - suc i) ≡ n = omega arith in
-      sharing-cong w p (uncaught ρ one w hw final t) agree i n
-      ∙ ap (sharing w (uncaught ρ one w hw final t) i) (sym e)
+      sharing-cong w p (uncaught ρ w final t) agree i n
+      ∙ ap (sharing w (uncaught ρ w final t) i) (sym e)
       ∙ sharing-rule ρ one w hw final t i (n - suc i) h off (omega arith)
       ∙ ap₂ (λ (l : ℕ) (from : ℕ → ℕ → ℕ). byPrefix ρ w (exists w t l) from i l) e
-      (fun-ext (λ s. fun-ext (λ l. sym (sharingFrom-cong w p (uncaught ρ one w hw final t) agree s l))))
+      (fun-ext (λ s. fun-ext (λ l. sym (sharingFrom-cong w p (uncaught ρ w final t) agree s l))))
       ∙ byPrefix-cong ρ w (exists w t n) i counts same (sharingFrom w p) n
-
-  -- those that share all their letters: the first i of w, or none
-  pub accepted-whole : (i : ℕ) → i ≤ length w → sharing w p i i ≡ cond (p (take i w)) 1 0
-  accepted-whole i h =
-      sharing-cong w p (uncaught ρ one w hw final t) agree i i
-      ∙ prefix-whole w hw (fineAt w (belowHit ρ w) final t) (doneAt w (belowHit ρ w) final t) i h
-      ∙ ap (λ (x : Bool). cond x 1 0) (sym (agree (take i w) (letters-take i w hw)))

@@ -6,14 +6,14 @@ use native.Mathlib.Omega.{arith}
 use mathlib.Core.Bool.{Bool, true, false}
 use mathlib.Core.List.{List, [], _∷_, _++_, map, List·Memᴰ, List·Memᴰ·head, List·Memᴰ·tail}
 use mathlib.Core.Logic.{_↔_}
-use mathlib.Core.Path.{_≡_, refl, sym, ap, _∙_, subst}
+use mathlib.Core.Path.{_≡_, refl, sym, ap, _∙_}
 use lib.ListN.{length, getD, take, drop, length-take, length-drop, length-map, List·getD-map}
 use lib.Seq.{take-add, take-all, drop-drop}
 use Rattle.definitions.specs.Lists.{put, filter, total}
 use Rattle.definitions.specs.Words.{Word, Mer, words, same, val}
 use Rattle.definitions.specs.Vigemins.{Form, vigemin}
 use Rattle.definitions.specs.Shelves.{shelf, size, page}
-use Rattle.laws.specs.Tests.{test-ext, same-eq, same-refl}
+use Rattle.laws.specs.Tests.{test-ext, same-eq, eq-same}
 use Rattle.laws.specs.Minima.{vigemin-mer}
 use Rattle.laws.specs.Counting.{total-mul, map-agree, words-mer, filter-words, count, count-cong, count-one, length-words}
 use Rattle.laws.specs.Counting.{Increasing, increasing-once, filter-increasing, words-increasing}
@@ -40,38 +40,17 @@ module _ {A B : Type 0} where
       total-put (fits a) a (λ w. filter (λ x. fits x w) l) ws
       ∙ omega (arith, h a (List·Memᴰ·head refl), total-classes fits l ws (λ x m. h x (List·Memᴰ·tail m)))
 
-eq-same : {u v : Word} → u ≡ v → same u v ≡ true
-eq-same {u} e = subst (λ v. same u v ≡ true) e (same-refl u)
-
 same-sym : (u v : Word) → same u v ≡ same v u
 same-sym u v = test-ext (same u v) (same v u) (λ e. eq-same (sym (same-eq u v e))) (λ e. eq-same (sym (same-eq v u e)))
-
--- the class of w under g holds the k-mers that g takes to w
-pub class-holds : (g : Word → Word) (k : ℕ) (w x : Word) → List·Memᴰ x (filter (λ y. same (g y) w) (words k)) ↔ (Mer k x × (g x ≡ w))
-class-holds g k w x =
-    let r = filter-words (λ y. same (g y) w) k x in
-    (λ m. (r .0 m .0, same-eq (g x) w (r .0 m .1)), λ h. r .1 (h .0, eq-same (h .1)))
-
-module _ (g : Word → Word) (k m : ℕ) (inside : (x : Word) → Mer k x → Mer m (g x)) where
-  -- where g takes each k-mer to an m-mer, the sizes of the classes of the m-mers sum up to the number of the k-mers
-  pub partition : total (map (λ w. count (λ x. same (g x) w) k) (words m)) ≡ 4 ^ k
-  partition =
-      total-classes (λ x. same (g x)) (words k) (words m)
-      (λ x h. count-cong (same (g x)) (λ w. same w (g x)) m (λ w n. same-sym (g x) w) ∙ count-one (g x) (inside x (words-mer k x .0 h)))
-      ∙ length-words k
-
-  -- each k-mer x stands in the class of the m-mer g x, and in no other
-  pub one-shelf : (x : Word) → Mer k x
-      → Mer m (g x) × List·Memᴰ x (filter (λ y. same (g y) (g x)) (words k))
-      × ((w : Word) → List·Memᴰ x (filter (λ y. same (g y) w) (words k)) → w ≡ g x)
-  one-shelf x h = (inside x h, class-holds g k (g x) x .1 (h, refl), λ w s. sym (class-holds g k w x .0 s .1))
 
 -- ---- shelves
 
 module _ (f : Form) (k : ℕ) (w : Word) where
   -- the shelf of w holds the k-mers whose vigemin is w
   pub shelf-holds : (x : Word) → List·Memᴰ x (shelf f k w) ↔ (Mer k x × (vigemin f (length w) x ≡ w))
-  shelf-holds = class-holds (vigemin f (length w)) k w
+  shelf-holds x =
+      let r = filter-words (λ y. same (vigemin f (length w) y) w) k x in
+      (λ m. (r .0 m .0, same-eq (vigemin f (length w) x) w (r .0 m .1)), λ h. r .1 (h .0, eq-same (h .1)))
 
   -- the words on a shelf have increasing numbers
   pub shelf-increasing : Increasing (map val (shelf f k w))
@@ -88,23 +67,23 @@ module _ (f : Form) (k m : ℕ) (mk : m ≤ k) where
   inside : (x : Word) → Mer k x → Mer m (vigemin f m x)
   inside x h = vigemin-mer f m x (rw (h .0) mk) (h .1)
 
-  shelf-class : (w : Word) → length w ≡ m → shelf f k w ≡ filter (λ x. same (vigemin f m x) w) (words k)
-  shelf-class w e = ap (λ n. filter (λ x. same (vigemin f n x) w) (words k)) e
-
   -- each k-mer stands on the shelf of its vigemin, and on no other shelf of an m-mer
   pub shelf-one : (x : Word) → Mer k x
       → Mer m (vigemin f m x) × List·Memᴰ x (shelf f k (vigemin f m x))
       × ((w : Word) → length w ≡ m → List·Memᴰ x (shelf f k w) → w ≡ vigemin f m x)
   shelf-one x h =
-      let r = one-shelf (vigemin f m) k m inside x h in
-      (r .0, rw (shelf-class (vigemin f m x) (r .0 .0)) (r .1), λ w e s. r .2 w (rw (shelf-class w e) at s))
+      let v = inside x h in
+      (v, shelf-holds f k (vigemin f m x) x .1 (h, ap (λ n. vigemin f n x) (v .0)), λ w e s. sym (shelf-holds f k w x .0 s .1) ∙ ap (λ n. vigemin f n x) e)
 
   -- the sizes of the shelves of all m-mers sum up to the number of the k-mers
   pub sizes-total : total (map (size f k) (words m)) ≡ 4 ^ k
   sizes-total =
-      ap total
-      (map-agree (size f k) (λ w. count (λ x. same (vigemin f m x) w) k) (words m) (λ w h. ap length (shelf-class w (words-mer m w .0 h .0))))
-      ∙ partition (vigemin f m) k m inside
+      ap total (map-agree (size f k) (λ w. count (λ x. same (vigemin f m x) w) k) (words m)
+      (λ w h. ap (λ n. count (λ x. same (vigemin f n x) w) k) (words-mer m w .0 h .0)))
+      ∙ total-classes (λ x. same (vigemin f m x)) (words k) (words m)
+      (λ x h. count-cong (same (vigemin f m x)) (λ w. same w (vigemin f m x)) m (λ w n. same-sym (vigemin f m x) w)
+      ∙ count-one (vigemin f m x) (inside x (words-mer k x .0 h)))
+      ∙ length-words k
 
 -- ---- pages
 

@@ -3,17 +3,18 @@
 use Prim.Native.Nat.{ℕ, zero, suc, _+_, _*_, _^_, _≤_, _<_}
 use native.Mathlib.Nat.{zero-add, add-zero, suc-add, add-suc, add-assoc, add-comm, zero-mul, one-mul, suc-mul, add-mul, pow-suc, pow-succ', ne-of-lt}
 use native.Mathlib.Omega.{arith}
-use mathlib.Core.Bool.{Bool, true, false, _&&_, _||_}
+use mathlib.Core.Bool.{Bool, true, false, cond, _&&_, _||_}
 use mathlib.Core.List.{List, [], _∷_, _++_, map, map-map, map-append, List·Memᴰ, List·Memᴰ·head, List·Memᴰ·tail}
 use mathlib.Core.List.{List·Memᴰ·append-cases, List·Memᴰ·eq-of-singleton, List·Memᴰ·not-nil, Memᴰ·append-left, Memᴰ·append-right, Memᴰ·map, Memᴰ·of-map}
 use mathlib.Core.Logic.{⊎-elim, _↔_}
 use mathlib.Core.Path.{_≡_, refl, sym, ap, ap₂, _∙_, subst, fun-ext}
-use borrow.Author.Tests.{ltb-true}
+use borrow.Author.Tests.{ltb-true, eqb-true}
 use lib.Dec.{ltb, eqb}
-use lib.ListN.{length, getD, take, drop, length-map}
+use lib.ListN.{length, getD, take, drop}
 use Rattle.definitions.specs.Lists.{put, filter, tabulate, total}
 use Rattle.definitions.specs.Words.{Word, Letters, Mer, letters, spread, words, same, val}
-use Rattle.laws.specs.Filters.{filter-sound, filter-complete, filter-agree, filter-every, filter-none, filter-le, length-either, length-joined, filter-split}
+use Rattle.laws.specs.Numbers.{each-letter, letters-at}
+use Rattle.laws.specs.Filters.{at-mem, filter-sound, filter-complete, filter-agree, filter-every, filter-none, filter-le, length-either, filter-fixed, length-cond, length-begun, filter-split}
 
 -- ---- lists
 
@@ -39,18 +40,12 @@ module _ {A B : Type 0} where
 
 -- ---- the words of n letters
 
--- what holds of the four letters holds of each number below four
-four : (P : ℕ → Type 0) → P 0 → P 1 → P 2 → P 3 → (a : ℕ) → a < 4 → P a
-four P p0 p1 p2 p3 zero h = p0
-four P p0 p1 p2 p3 (suc zero) h = p1
-four P p0 p1 p2 p3 (suc (suc zero)) h = p2
-four P p0 p1 p2 p3 (suc (suc (suc zero))) h = p3
-four P p0 p1 p2 p3 (suc (suc (suc (suc a)))) h = absurd (omega arith)
-
 letter-mem : (a : ℕ) → a < 4 → List·Memᴰ a letters
-letter-mem =
-    four (λ a. List·Memᴰ a letters) (List·Memᴰ·head refl) (List·Memᴰ·tail (List·Memᴰ·head refl)) (List·Memᴰ·tail (List·Memᴰ·tail (List·Memᴰ·head refl)))
-    (List·Memᴰ·tail (List·Memᴰ·tail (List·Memᴰ·tail (List·Memᴰ·head refl))))
+letter-mem a h = subst (λ b. List·Memᴰ b letters) (letters-at h) (at-mem letters 0 a h)
+
+-- the letters are below four
+pub letters-lt : {a : ℕ} → List·Memᴰ a letters → a < 4
+letters-lt {a} m = ltb-true a 4 (filter-sound (λ b. ltb b 4) letters m .1)
 
 spread-sound : (ls : List ℕ) (ws : List Word) {x : Word} → List·Memᴰ x (spread ls ws)
     → (a : ℕ) × (v : Word) × List·Memᴰ a ls × List·Memᴰ v ws × (a ∷ v ≡ x)
@@ -70,7 +65,7 @@ words-sound zero m = subst (Mer zero) (sym (List·Memᴰ·eq-of-singleton m)) (r
 words-sound (suc n) m =
     let r = spread-sound letters (words n) m in
     let v = words-sound n (r .3) in
-    subst (Mer (suc n)) (r .4) (ap suc (v .0), (ltb-true (r .0) 4 (filter-sound (λ a. ltb a 4) letters (r .2) .1), v .1))
+    subst (Mer (suc n)) (r .4) (ap suc (v .0), (letters-lt (r .2), v .1))
 
 words-complete : (x : Word) → Letters x → List·Memᴰ x (words (length x))
 words-complete [] h = List·Memᴰ·head refl
@@ -102,7 +97,7 @@ count-cong p q n h = ap length (filter-cong p q n h)
 -- a count splits by the first letter
 pub count-split : (p : Word → Bool) (n : ℕ) → count p (suc n) ≡ total (map (λ a. count (λ z. p (a ∷ z)) n) letters)
 count-split p n =
-    ap length (filter-split p n) ∙ length-joined (λ a. map (λ (z : Word). a ∷ z) (filter (λ z. p (a ∷ z)) (words n))) letters ∙ simp length-map
+    ap length (filter-split p n) ∙ length-begun (λ a. filter (λ z. p (a ∷ z)) (words n)) letters
 
 -- a test that every word passes counts 4 ^ n
 pub count-every : (n : ℕ) → count (λ x. true) n ≡ 4 ^ n
@@ -126,13 +121,17 @@ pub count-either : (p q : Word → Bool) (n : ℕ) → ((x : Word) → Mer n x �
     → count (λ x. p x || q x) n ≡ count p n + count q n
 count-either p q n h = length-either p q (words n) (λ x m. h x (words-mer n x .0 m))
 
-count-and : (t : Bool) (q : Word → Bool) (n : ℕ) → count (λ x. t && q x) n ≡ count (λ x. t) 0 * count q n
-count-and true q n = sym (one-mul (count q n))
-count-and false q n = count-none n ∙ sym (zero-mul (count q n))
+-- a fixed test beside another counts what the other does, or none
+pub count-fixed : (t : Bool) (p : Word → Bool) (n : ℕ) → count (λ x. t && p x) n ≡ cond t (count p n) 0
+count-fixed t p n = ap length (filter-fixed t p (words n)) ∙ length-cond t (filter p (words n))
+
+put-times : (t : Bool) (n : ℕ) → cond t n 0 ≡ length (put {A = Word} t [] []) * n
+put-times true n = sym (one-mul n)
+put-times false n = sym (zero-mul n)
 
 -- of a test of the first a letters and one of the rest, the counts multiply
 pub count-product : (p q : Word → Bool) (a n : ℕ) → count (λ x. p (take a x) && q (drop a x)) (a + n) ≡ count p a * count q n
-count-product p q zero n = rw zero-add (count-and (p []) q n)
+count-product p q zero n = rw zero-add (count-fixed (p []) q n ∙ put-times (p []) (count q n))
 count-product p q (suc a) n =
     ap (count (λ x. p (take (suc a) x) && q (drop (suc a) x))) (suc-add a n)
     ∙ count-split (λ x. p (take (suc a) x) && q (drop (suc a) x)) (a + n)
@@ -144,9 +143,8 @@ count-self : (u : Word) → Letters u → count (λ x. same x u) (length u) ≡ 
 count-self [] h = refl
 count-self (b ∷ u) h =
     count-split (λ x. same x (b ∷ u)) (length u)
-    ∙ ap (λ f. total (map f letters))
-    (fun-ext (λ a. count-and (eqb a b) (λ x. same x u) (length u) ∙ ap (λ c. count (λ x. eqb a b) 0 * c) (count-self u (h .1))))
-    ∙ four (λ b. total (map (λ a. count (λ x. eqb a b) 0 * 1) letters) ≡ 1) refl refl refl refl b (h .0)
+    ∙ ap (λ f. total (map f letters)) (fun-ext (λ a. count-fixed (eqb a b) (λ x. same x u) (length u) ∙ ap (λ c. cond (eqb a b) c 0) (count-self u (h .1))))
+    ∙ eqb-true (total (map (λ a. cond (eqb a b) 1 0) letters)) 1 (each-letter (λ c. eqb (total (map (λ a. cond (eqb a c) 1 0) letters)) 1) refl (h .0))
 
 -- one word of n letters is u
 pub count-one : (u : Word) {n : ℕ} → Mer n u → count (λ x. same x u) n ≡ 1

@@ -1,16 +1,16 @@
 -- Filters: what is chosen from a list, from joined lists, and from all words of n + 1 letters.
 -- Assumes nothing.
-use Prim.Native.Nat.{ℕ, suc, _+_, _≤_}
-use native.Mathlib.Nat.{le-refl}
+use Prim.Native.Nat.{ℕ, zero, suc, _+_, _≤_, _<_, suc-le-suc}
+use native.Mathlib.Nat.{le-refl, le-of-suc-le-suc, not-suc-le-zero, zero-lt-suc}
 use native.Mathlib.Omega.{arith}
-use mathlib.Core.Bool.{Bool, true, false, _||_}
+use mathlib.Core.Bool.{Bool, true, false, cond, _&&_, _||_}
 use mathlib.Core.List.{List, [], _∷_, _++_, map, List·Memᴰ, List·Memᴰ·head, List·Memᴰ·tail, List·Memᴰ·cases-cons, List·Memᴰ·not-nil}
 use mathlib.Core.Logic.{_⊎_, inl, inr, ⊎-elim}
 use mathlib.Core.Path.{_≡_, refl, sym, ap, ap₂, _∙_}
-use lib.ListN.{length, length-append}
-use Rattle.definitions.specs.Lists.{put, filter, total}
+use lib.ListN.{length, getD, length-append, length-map}
+use Rattle.definitions.specs.Lists.{put, filter, all, tabulate, total}
 use Rattle.definitions.specs.Words.{Word, letters, spread, words}
-use Rattle.laws.specs.Tests.{contrary}
+use Rattle.laws.specs.Tests.{and-l, and-r, and-i, or-l, or-r, or-cases, contrary}
 
 module _ {A : Type 0} where
   -- whether a test holds of some entry
@@ -66,6 +66,16 @@ module _ {A : Type 0} where
   filter-none [] = refl
   filter-none (a ∷ l) = filter-none l
 
+  -- a fixed test beside another chooses what the other does, or none
+  pub filter-fixed : (t : Bool) (p : A → Bool) (l : List A) → filter (λ z. t && p z) l ≡ cond t (filter p l) []
+  filter-fixed true p l = refl
+  filter-fixed false p l = filter-none l
+
+  -- the length of a list that a test keeps
+  pub length-cond : (t : Bool) (l : List A) → length (cond t l []) ≡ cond t (length l) 0
+  length-cond true l = refl
+  length-cond false l = refl
+
   put-le : (t : Bool) (a : A) (l r : List A) → length l ≤ length r → length (put t a l) ≤ suc (length r)
   put-le true a l r h = omega arith
   put-le false a l r h = omega arith
@@ -90,6 +100,70 @@ module _ {A : Type 0} where
       put-either (p a) (q a) a (filter (λ x. p x || q x) l) (filter p l) (filter q l) (h a (List·Memᴰ·head refl))
       (length-either p q l (λ x m. h x (List·Memᴰ·tail m)))
 
+-- ---- tests over a list, by places
+
+module _ {A : Type 0} where
+  -- a test that holds of every entry holds at each place
+  pub all-at : (p : A → Bool) (l : List A) (d : A) (i : ℕ) → all p l ≡ true → i < length l → p (getD l i d) ≡ true
+  all-at p [] d i e h = absurd (not-suc-le-zero h)
+  all-at p (a ∷ l) d zero e h = and-l (p a) (all p l) e
+  all-at p (a ∷ l) d (suc i) e h = all-at p l d i (and-r (p a) (all p l) e) (le-of-suc-le-suc h)
+
+  -- a test that holds at each place holds of every entry
+  pub at-all : (p : A → Bool) (l : List A) (d : A) → ((i : ℕ) → i < length l → p (getD l i d) ≡ true) → all p l ≡ true
+  at-all p [] d h = refl
+  at-all p (a ∷ l) d h = and-i (p a) (all p l) (h zero (zero-lt-suc (length l))) (at-all p l d (λ i k. h (suc i) (omega arith)))
+
+  one-on : (Q : A → Type 0) (a : A) (l : List A) (d : A) → (i : ℕ) × (i < length l) × Q (getD l i d) → (i : ℕ) × (i < suc (length l)) × Q (getD (a ∷ l) i d)
+  one-on Q a l d s = (suc (s .0), suc-le-suc (s .1), s .2)
+
+  -- a test that holds of some entry holds at some place
+  pub any-at : (p : A → Bool) (l : List A) (d : A) → any p l ≡ true → (i : ℕ) × (i < length l) × (p (getD l i d) ≡ true)
+  any-at p [] d e = absurd (contrary false e refl)
+  any-at p (a ∷ l) d e =
+      ⊎-elim (λ h. (zero, zero-lt-suc (length l), h)) (λ h. one-on (λ b. p b ≡ true) a l d (any-at p l d h)) (or-cases (p a) (any p l) e)
+
+  -- a test that holds at some place holds of some entry
+  pub at-any : (p : A → Bool) (l : List A) (d : A) (i : ℕ) → i < length l → p (getD l i d) ≡ true → any p l ≡ true
+  at-any p [] d i h e = absurd (not-suc-le-zero h)
+  at-any p (a ∷ l) d zero h e = or-l (p a) (any p l) e
+  at-any p (a ∷ l) d (suc i) h e = or-r (p a) (any p l) (at-any p l d i (le-of-suc-le-suc h) e)
+
+  -- what stands at a place is an entry
+  pub at-mem : (l : List A) (d : A) (i : ℕ) → i < length l → List·Memᴰ (getD l i d) l
+  at-mem [] d i h = absurd (not-suc-le-zero h)
+  at-mem (a ∷ l) d zero h = List·Memᴰ·head refl
+  at-mem (a ∷ l) d (suc i) h = List·Memᴰ·tail (at-mem l d i (le-of-suc-le-suc h))
+
+  -- an entry stands at some place
+  pub mem-at : (l : List A) (d : A) {a : A} → List·Memᴰ a l → (i : ℕ) × (i < length l) × (a ≡ getD l i d)
+  mem-at [] d h = absurd (List·Memᴰ·not-nil h)
+  mem-at (b ∷ l) d {a} h =
+      ⊎-elim (λ e. (zero, zero-lt-suc (length l), e)) (λ m. one-on (λ c. a ≡ c) b l d (mem-at l d m)) (List·Memᴰ·cases-cons h)
+
+  -- what a function gives, at a place
+  pub at-map : {B : Type 0} (f : A → B) (l : List A) (d : A) (e : B) (i : ℕ) → i < length l → getD (map f l) i e ≡ f (getD l i d)
+  at-map f [] d e i h = absurd (not-suc-le-zero h)
+  at-map f (a ∷ l) d e zero h = refl
+  at-map f (a ∷ l) d e (suc i) h = at-map f l d e i (le-of-suc-le-suc h)
+
+module _ {A : Type 0} where
+  -- a table of f has n entries
+  pub length-tabulate : (f : ℕ → A) (n : ℕ) → length (tabulate f n) ≡ n
+  length-tabulate f zero = refl
+  length-tabulate f (suc n) = ap suc (length-tabulate (λ i. f (suc i)) n)
+
+  -- and at place i stands f i
+  pub tabulate-at : (f : ℕ → A) (n i : ℕ) (d : A) → i < n → getD (tabulate f n) i d ≡ f i
+  tabulate-at f zero i d h = absurd (not-suc-le-zero h)
+  tabulate-at f (suc n) zero d h = refl
+  tabulate-at f (suc n) (suc i) d h = tabulate-at (λ j. f (suc j)) n i d (le-of-suc-le-suc h)
+
+  -- functions that agree below n have one table
+  pub tabulate-agree : {f g : ℕ → A} (n : ℕ) → ((i : ℕ) → i < n → f i ≡ g i) → tabulate f n ≡ tabulate g n
+  tabulate-agree zero h = refl
+  tabulate-agree (suc n) h = ap₂ (λ (a : A) (l : List A). a ∷ l) (h zero (omega arith)) (tabulate-agree n (λ i k. h (suc i) (omega arith)))
+
 module _ {A B : Type 0} where
   -- the lists that f gives for some entries, in a row
   abbrev pub joined : (A → List B) → List A → List B
@@ -109,6 +183,10 @@ module _ {A B : Type 0} where
       map-put : (t : Bool) (x : A) (r : List A) → put t (g x) (map g r) ≡ map g (put t x r)
       map-put true x r = refl
       map-put false x r = refl
+
+-- how many words some letters begin
+pub length-begun : (F : ℕ → List Word) (ls : List ℕ) → length (joined (λ a. map (λ (z : Word). a ∷ z) (F a)) ls) ≡ total (map (λ a. length (F a)) ls)
+length-begun F ls = length-joined (λ a. map (λ (z : Word). a ∷ z) (F a)) ls ∙ simp length-map
 
 -- a filter over words that a list of letters begins
 pub filter-spread : (p : Word → Bool) (ls : List ℕ) (ws : List Word)

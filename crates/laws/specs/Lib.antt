@@ -1,7 +1,7 @@
 -- What is proved of the definitions, once. docs/LAWS.md lists the main theorems; here is what each file is about, in the order in
 -- which one builds on another. ρ is a ranking of the letters for each place, one-to-one at each; the keyed form goes by such a one.
 --
--- Tests, Places, Filters    tests joined; tests at the places below n; what is chosen from lists and from all words of n + 1 letters
+-- Tests, Filters, Places    tests joined; what is chosen from lists and from all words of n + 1 letters; tests at the places below n
 -- Numbers                   words and numbers: one-to-one, in order, ⊕ as XOR, the m-mer at a place, letters and bytes
 -- Minima, Scans             the leftmost least of any values; windows; the vigemin's position; the positions of a scan
 -- Counting, Walks           how many words pass a test; tables by states; the r-th word, the place of a word, the next word
@@ -15,8 +15,8 @@
 -- Print                     four errors of the printed rules, each with a computed case
 -- Refusals                  the refusal given is met, and the lowest where the numbers increase
 pub mod Tests
-pub mod Places
 pub mod Filters
+pub mod Places
 pub mod Numbers
 pub mod Minima
 pub mod Scans

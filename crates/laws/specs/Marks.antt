@@ -4,23 +4,22 @@ use Prim.Native.Nat.{ℕ, zero, suc, _+_, _-_, _<_}
 use mathlib.Core.Bool.{Bool, true, false, cond, not, _&&_, _||_}
 use mathlib.Core.List.{List, [], map}
 use mathlib.Core.Option.{Option, none, some}
-use mathlib.Core.Path.{_≡_, refl, sym, ap, ap₂, fun-ext, _∙_}
+use mathlib.Core.Path.{_≡_, sym, ap, ap₂, fun-ext, _∙_}
 use native.Mathlib.Omega.{arith}
-use lib.Dec.{eqb}
 use lib.ListN.{length, getD, drop}
 use lib.Seq.{drop-length}
 use Rattle.definitions.specs.Lists.{total}
 use Rattle.definitions.specs.Words.{Word, Letters, Mer, letters, same}
 use Rattle.definitions.specs.Vigemins.{vigemin}
 use Rattle.definitions.specs.Shelves.{shelf, size}
-use Rattle.laws.specs.Tests.{or-l, same-refl}
-use Rattle.laws.specs.Walks.{accepts, ways-count, ways-cong, wordAt, word-at, placeAt, place-at, place-word, nextAt, next-at, next-none}
+use Rattle.laws.specs.Tests.{eq-same}
+use Rattle.laws.specs.Walks.{accepts, count-accepted, wordAt, word-at, placeAt, place-at, place-word, nextAt, next-at, next-none}
 use Rattle.laws.specs.Orders.{Ranking, OneToOne, ranked}
 use Rattle.laws.specs.States.{matches, first, next, matches-all}
 use Rattle.laws.specs.Places.{anyTo, anyTo-there}
 use Rattle.laws.specs.Threads.{caught}
 use Rattle.laws.specs.Acceptors.{belowHit}
-use Rattle.laws.specs.Tables.{shelfOk, shelfStep, shelfEnd, shelfWays, shelf-accepted, shelf-table, postmerOk, postmerEnd, postmerWays, postmer-end, antemerOk, antemerWays}
+use Rattle.laws.specs.Tables.{shelfOk, shelfStep, shelfEnd, shelfWays, shelf-accepted, shelf-table, postmerOk, postmerWays, postmer-end, antemerOk, antemerWays}
 
 module _ (ρ : Ranking) (w : Word) where
   -- the k-mer at place r, from the table
@@ -38,7 +37,7 @@ module _ (ρ : Ranking) (w : Word) where
 module _ (ρ : Ranking) (one : OneToOne ρ) (w : Word) (hw : Letters w) (pos : 0 < length w) (k : ℕ) where
   -- the size is what the table counts from the start
   pub size-table : size (ranked ρ) k w ≡ shelfWays ρ w (false, zero) k
-  size-table = ap length (shelf-table ρ one w hw pos k) ∙ sym (ways-count (shelfOk ρ w) (shelfStep ρ w) (shelfEnd ρ w) (false, zero) k)
+  size-table = count-accepted (shelfOk ρ w) (shelfStep ρ w) (shelfEnd ρ w) (λ x. same (vigemin (ranked ρ) (length w) x) w) (false, zero) k (shelf-accepted ρ one w hw pos)
 
   -- the k-mer at a place of the shelf
   pub shelf-word : (r : ℕ) → getD (shelf (ranked ρ) k w) r [] ≡ kmerAt ρ w k r
@@ -48,7 +47,7 @@ module _ (ρ : Ranking) (one : OneToOne ρ) (w : Word) (hw : Letters w) (pos : 0
   pub shelf-place : (x : Word) → Mer k x → vigemin (ranked ρ) (length w) x ≡ w
       → (placeOf ρ w k x < size (ranked ρ) k w) × (getD (shelf (ranked ρ) k w) (placeOf ρ w k x) [] ≡ x)
   shelf-place x h e =
-      let on : accepts (shelfOk ρ w) (shelfStep ρ w) (shelfEnd ρ w) (false, zero) x ≡ true = sym (shelf-accepted ρ one w hw pos x (h .1)) ∙ ap (λ (v : Word). same v w) e ∙ same-refl w in
+      let on : accepts (shelfOk ρ w) (shelfStep ρ w) (shelfEnd ρ w) (false, zero) x ≡ true = sym (shelf-accepted ρ one w hw pos x (h .1)) ∙ eq-same e in
       let q = place-at (shelfOk ρ w) (shelfStep ρ w) (shelfEnd ρ w) (false, zero) k x h on in
       (omega (arith, q .0, size-table), shelf-word (placeOf ρ w k x) ∙ q .1)
 
@@ -67,10 +66,9 @@ module _ (ρ : Ranking) (one : OneToOne ρ) (w : Word) (hw : Letters w) (pos : 0
 
 -- once w was met, the ways to go on are those of a postmer
 pub ways-met : (ρ : Ranking) (w : Word) → 0 < length w → (i n : ℕ) → shelfWays ρ w (true, i) n ≡ postmerWays ρ w i n
-ways-met ρ w pos i n =
-    ways-cong (shelfOk ρ w) (shelfStep ρ w) (shelfEnd ρ w) (postmerOk ρ w) (next w) (postmerEnd ρ w) (λ s. s .1) (λ s. s .0 ≡ true)
-    (λ s a met h. or-l (s .0) (eqb (s .1) (length w)) met) (λ s j a met h. refl) (λ s a met h. refl)
-    (λ s met. or-l (s .0) (eqb (s .1) (length w)) met ∙ sym (postmer-end ρ w pos (s .1))) (true, i) n refl
+ways-met ρ w pos i zero = ap (λ (t : Bool). cond t 1 0) (sym (postmer-end ρ w pos i))
+ways-met ρ w pos i (suc n) =
+    ap (λ (g : ℕ → ℕ). total (map g letters)) (fun-ext (λ b. ap (λ (c : ℕ). cond (postmerOk ρ w i n b) c 0) (ways-met ρ w pos (next w i b) n)))
 
 -- an antemer does not hold w: from state m there is no way on
 pub antemer-stop : (ρ : Ranking) (w : Word) → 0 < length w → (n : ℕ) → antemerWays ρ w (length w) n ≡ 0

@@ -2,7 +2,7 @@
 -- Assumes nothing.
 use Prim.Native.Nat.{ℕ, zero, suc, _+_, _-_, _≤_, _<_, min, suc-le-suc}
 use mathlib.Core.Bool.{Bool, true, false, cond, not, _&&_}
-use mathlib.Core.List.{List, [], _∷_, _++_, map, List·Memᴰ, List·Memᴰ·head, List·Memᴰ·tail, List·Memᴰ·not-nil, List·Memᴰ·cases-cons}
+use mathlib.Core.List.{List, [], _∷_, _++_, map, List·Memᴰ}
 use mathlib.Core.Logic.{_⊎_, inl, inr, ⊎-elim}
 use mathlib.Core.Path.{_≡_, refl, sym, ap, ap₂, _∙_}
 use native.Mathlib.Nat.{zero-add, suc-add, lt-trans, le-trans, lt-of-lt-of-le, min-eq-left, min-eq-right, le-refl, le-of-lt, le-of-suc-le-suc, not-suc-le-zero, zero-lt-suc, le-antisymm}
@@ -14,56 +14,9 @@ use lib.Seq.{length-take-le, take-nil, getD-append-add, take-take, ext-getD, dro
 use Rattle.definitions.specs.Lists.{put, all}
 use Rattle.definitions.specs.Words.{Word, Letters, Mer, same}
 use Rattle.definitions.specs.Vigemins.{Form, value, below, windows, leastPlace, vigeminAt, vigemin}
-use Rattle.laws.specs.Tests.{and-l, and-r, and-i, or-l, or-r, or-cases, test-ext, contrary, same-eq, same-refl}
+use Rattle.laws.specs.Tests.{and-l, and-r, and-i, test-ext, contrary, same-eq, eq-same}
 use Rattle.laws.specs.Numbers.{letters-take, letters-drop}
-use Rattle.laws.specs.Filters.{any}
-
--- ---- tests over a list, by places
-
-module _ {A : Type 0} where
-  -- a test that holds of every entry holds at each place
-  pub all-at : (p : A → Bool) (l : List A) (d : A) (i : ℕ) → all p l ≡ true → i < length l → p (getD l i d) ≡ true
-  all-at p [] d i e h = absurd (not-suc-le-zero h)
-  all-at p (a ∷ l) d zero e h = and-l (p a) (all p l) e
-  all-at p (a ∷ l) d (suc i) e h = all-at p l d i (and-r (p a) (all p l) e) (le-of-suc-le-suc h)
-
-  -- a test that holds at each place holds of every entry
-  pub at-all : (p : A → Bool) (l : List A) (d : A) → ((i : ℕ) → i < length l → p (getD l i d) ≡ true) → all p l ≡ true
-  at-all p [] d h = refl
-  at-all p (a ∷ l) d h = and-i (p a) (all p l) (h zero (zero-lt-suc (length l))) (at-all p l d (λ i k. h (suc i) (omega arith)))
-
-  one-on : (Q : A → Type 0) (a : A) (l : List A) (d : A) → (i : ℕ) × (i < length l) × Q (getD l i d) → (i : ℕ) × (i < suc (length l)) × Q (getD (a ∷ l) i d)
-  one-on Q a l d s = (suc (s .0), suc-le-suc (s .1), s .2)
-
-  -- a test that holds of some entry holds at some place
-  pub any-at : (p : A → Bool) (l : List A) (d : A) → any p l ≡ true → (i : ℕ) × (i < length l) × (p (getD l i d) ≡ true)
-  any-at p [] d e = absurd (contrary false e refl)
-  any-at p (a ∷ l) d e =
-      ⊎-elim (λ h. (zero, zero-lt-suc (length l), h)) (λ h. one-on (λ b. p b ≡ true) a l d (any-at p l d h)) (or-cases (p a) (any p l) e)
-
-  -- a test that holds at some place holds of some entry
-  pub at-any : (p : A → Bool) (l : List A) (d : A) (i : ℕ) → i < length l → p (getD l i d) ≡ true → any p l ≡ true
-  at-any p [] d i h e = absurd (not-suc-le-zero h)
-  at-any p (a ∷ l) d zero h e = or-l (p a) (any p l) e
-  at-any p (a ∷ l) d (suc i) h e = or-r (p a) (any p l) (at-any p l d i (le-of-suc-le-suc h) e)
-
-  -- what stands at a place is an entry
-  pub at-mem : (l : List A) (d : A) (i : ℕ) → i < length l → List·Memᴰ (getD l i d) l
-  at-mem [] d i h = absurd (not-suc-le-zero h)
-  at-mem (a ∷ l) d zero h = List·Memᴰ·head refl
-  at-mem (a ∷ l) d (suc i) h = List·Memᴰ·tail (at-mem l d i (le-of-suc-le-suc h))
-
-  -- an entry stands at some place
-  pub mem-at : (l : List A) (d : A) {a : A} → List·Memᴰ a l → (i : ℕ) × (i < length l) × (a ≡ getD l i d)
-  mem-at [] d h = absurd (List·Memᴰ·not-nil h)
-  mem-at (b ∷ l) d {a} h =
-      ⊎-elim (λ e. (zero, zero-lt-suc (length l), e)) (λ m. one-on (λ c. a ≡ c) b l d (mem-at l d m)) (List·Memᴰ·cases-cons h)
-
-  -- what a function gives, at a place
-  pub at-map : {B : Type 0} (f : A → B) (l : List A) (d : A) (e : B) (i : ℕ) → i < length l → getD (map f l) i e ≡ f (getD l i d)
-  at-map f [] d e i h = absurd (not-suc-le-zero h)
-  at-map f (a ∷ l) d e zero h = refl
-  at-map f (a ∷ l) d e (suc i) h = at-map f l d e i (le-of-suc-le-suc h)
+use Rattle.laws.specs.Filters.{any, all-at, at-all, any-at, at-any, at-mem, mem-at, at-map}
 
 -- ---- the least of some numbers
 
@@ -113,10 +66,14 @@ least-lt l h = least l h .inside
 pub least-le : (l : List ℕ) {i : ℕ} → i < length l → getD l (leastPlace l) 0 ≤ getD l i 0
 least-le l {i} h = least l (omega arith) .lowest i h
 
+-- where some place lies left of the least, there are numbers
+least-some : (l : List ℕ) {i : ℕ} → i < leastPlace l → 0 < length l
+least-some [] h = absurd (not-suc-le-zero h)
+least-some (v ∷ vs) h = zero-lt-suc (length vs)
+
 -- every number to the left of the least is strictly above it
 pub least-left : (l : List ℕ) {i : ℕ} → i < leastPlace l → getD l (leastPlace l) 0 < getD l i 0
-least-left [] h = absurd (not-suc-le-zero h)
-least-left (v ∷ vs) {i} h = least (v ∷ vs) (zero-lt-suc (length vs)) .leftmost i h
+least-left l {i} h = least l (least-some l h) .leftmost i h
 
 -- of two places of the least, neither is left of the other
 not-left : {l : List ℕ} {p q : ℕ} → Least l p → Least l q → ¬ (p < q)
@@ -193,9 +150,9 @@ module _ {A : Type 0} (g : A → ℕ) (l : List A) (d : A) where
   least-map-le {i} h = rw (← at-value h, ← at-value (least-map-lt (omega arith))) (least-le (map g l) (rw length-map h))
 
   -- the number of every entry to the left of the least is strictly above it
-  pub least-map-left : {i : ℕ} → 0 < length l → i < leastPlace (map g l) → g (getD l (leastPlace (map g l)) d) < g (getD l i d)
-  least-map-left {i} k h =
-      let b : leastPlace (map g l) < length l = least-map-lt k in
+  pub least-map-left : {i : ℕ} → i < leastPlace (map g l) → g (getD l (leastPlace (map g l)) d) < g (getD l i d)
+  least-map-left {i} h =
+      let b : leastPlace (map g l) < length l = least-map-lt (rw length-map at (least-some (map g l) h)) in
       rw (← at-value {i = i} (omega arith), ← at-value b) (least-left (map g l) h)
 
 -- ---- windows
@@ -303,9 +260,10 @@ module _ (f : Form) (m : ℕ) (x : Word) where
   vigemin-least p h = rw (← window-at m x p h) (least-map-le (value f) (windows m x) [] (rw length-windows (omega arith)))
 
   -- every m-mer to the left of the vigemin is strictly above it
-  pub vigemin-leftmost : (p : ℕ) → m ≤ length x → p < vigeminAt f m x → value f (vigemin f m x) < value f (take m (drop p x))
-  vigemin-leftmost p h k =
-      rw (← window-at m x p (omega (arith, vigemin-inside h))) (least-map-left (value f) (windows m x) [] (rw length-windows (omega arith)) k)
+  pub vigemin-leftmost : (p : ℕ) → p < vigeminAt f m x → value f (vigemin f m x) < value f (take m (drop p x))
+  vigemin-leftmost p k =
+      let some : 0 < suc (length x) - m = rw length-values at (least-some (map (value f) (windows m x)) k) in
+      rw (← window-at m x p (omega (arith, vigemin-inside (omega arith)))) (least-map-left (value f) (windows m x) [] k)
 
   -- an m-mer that none is below, and left of which each is strictly above, is the vigemin
   pub vigemin-unique : (p : ℕ) → p + m ≤ length x
@@ -361,4 +319,4 @@ vigemin-is f ws w long inj = test-ext (same low w) (none && among) onward back
         inj low (at-mem ws [] p h) (le-antisymm le (below-not f w low (all-at (λ v. not (below f w v)) ws [] p e h)))
 
     back : (none && among) ≡ true → same low w ≡ true
-    back e = rw (equal (and-l none among e) (any-at (λ v. same v w) ws [] (and-r none among e))) (same-refl w)
+    back e = eq-same (equal (and-l none among e) (any-at (λ v. same v w) ws [] (and-r none among e)))

@@ -1,22 +1,24 @@
 -- Letters, words and numbers: digits and their number, the sum of letters and words, and letters as bytes.
 -- Assumes nothing.
 use Prim.Native.Nat.{ℕ, zero, suc, _+_, _-_, _*_, _/_, _%_, _^_, _≤_, _<_, zero-le}
-use mathlib.Core.Bool.{Bool, true, false, not, cond, _&&_, _||_}
+use mathlib.Core.Bool.{Bool, true, false, not, _&&_, _||_}
 use mathlib.Core.List.{List, [], _∷_, _++_}
 use mathlib.Core.Path.{_≡_, refl, sym, ap, ap₂, _∙_}
-use native.Mathlib.Nat.{zero-lt-suc, le-of-suc-le-suc, not-suc-le-zero, pow-zero, pow-succ', mod-lt, mod-one, one-le-pow, mod-eq-of-lt, zero-mul, zero-add, suc-ne-zero, suc-inj, sub-zero, zero-sub, suc-sub-suc, sub-add-cancel, sub-right-comm, div-div-eq-div-mul, mul-suc, pow-suc, one-mul, mul-one, add-zero, lt-of-le-of-lt, add-mul, mul-assoc, add-assoc}
+use native.Mathlib.Nat.{zero-lt-suc, le-of-suc-le-suc, not-suc-le-zero, pow-zero, pow-succ', mod-lt, mod-one, one-le-pow, mod-eq-of-lt, zero-mul, zero-add, suc-ne-zero, suc-inj, sub-zero, zero-sub, suc-sub-suc, sub-add-cancel, sub-right-comm, div-div-eq-div-mul, mul-suc, pow-suc, one-mul, mul-one, add-zero, lt-of-le-of-lt, add-mul, mul-assoc, add-assoc, add-suc, suc-mul, mul-le-mul-right, le-of-lt}
 use native.Mathlib.Omega.{arith}
-use borrow.Author.Tests.{ltb-true, ltb-false, lt-ltb, le-ltb, eqb-true, eqb-false, eq-eqb}
+use borrow.Author.Tests.{ltb-true, ltb-false, lt-ltb, le-ltb, eqb-true, eqb-false}
 use lib.Arith.{digits-lt, digits-mod, digits-div, mod-mul}
 use lib.Pow.{pow-add}
 use lib.Bits.{bitXor, xor-lt, xor-zero-r, xor-block}
-use lib.Dec.{ltb, eqb, leb·suc-suc}
+use lib.Dec.{ltb, leb, eqb, leb·suc-suc}
 use lib.ListN.{length, take, drop, getD, length-append}
-use Rattle.definitions.specs.Lists.{all, tabulate, firstPlace}
+use Rattle.definitions.specs.Lists.{all, tabulate}
 use Rattle.definitions.specs.Words.{Word, letters, Digits, Letters, number, digits, val, word, sum, _⊕_, capitals, letterOf, isLetter, spelled, text}
 use Rattle.definitions.specs.Vigemins.{keyed, value, below}
 use Rattle.definitions.specs.Refusals.{firstBad}
-use Rattle.laws.specs.Tests.{and-l, and-r, and-i, test-ext}
+use Rattle.laws.specs.Filters.{all-at, length-tabulate, tabulate-at}
+use Rattle.laws.specs.Places.{firstPlace-holds, firstPlace-all}
+use Rattle.laws.specs.Tests.{and-l, and-r, and-i, leb-cong}
 
 -- ---- digits and their number
 
@@ -117,44 +119,33 @@ pub roll-number : (b a c : ℕ) (u : List ℕ) → Digits b u → number b (u ++
 roll-number b a c u h =
     number-append b u (c ∷ []) ∙ rw (digits-mod a (number-lt b u h), pow-suc b 0, pow-zero, one-mul, mul-one, add-zero)
 
--- two numbers with a high part and a low part below m are compared by their high parts first
-pub high-less : (m a c r s : ℕ) → r < m → s < m → ltb (a * m + r) (c * m + s) ≡ (ltb a c || (eqb a c && ltb r s))
-high-less m a c r s hr hs = go (ltb a c) (eqb a c) refl refl
+-- x is below y, or, where that is asked, at most y
+abbrev pub atMost : Bool → ℕ → ℕ → Bool
+atMost false x y = ltb x y
+atMost true x y = leb x y
+
+high-below : (m a c r s : ℕ) → r < m → s ≤ m → ltb (a * m + r) (c * m + s) ≡ (ltb a c || (eqb a c && ltb r s))
+high-below m a c r s hr hs = go (ltb a c) (eqb a c) refl refl
   where
     go : (t e : Bool) → ltb a c ≡ t → eqb a c ≡ e → ltb (a * m + r) (c * m + s) ≡ (t || (e && ltb r s))
-    go true e p q =
-        let h : a * m + r < c * m = digits-lt (ltb-true a c p) hr in
-        lt-ltb (a * m + r) (c * m + s) (omega arith)
-    go false true p q =
-        rw (eqb-true a c q)
-        (test-ext (ltb (c * m + r) (c * m + s)) (ltb r s)
-        (λ h. lt-ltb r s (omega (arith, ltb-true (c * m + r) (c * m + s) h)))
-        (λ h. lt-ltb (c * m + r) (c * m + s) (omega (arith, ltb-true r s h))))
+    go true e p q = lt-ltb (a * m + r) (c * m + s) (omega (arith, digits-lt (ltb-true a c p) hr))
+    go false true p q = rw (eqb-true a c q) (leb-cong (suc (c * m + r)) (c * m + s) (suc r) s (λ h. omega arith) (λ h. omega arith))
     go false false p q =
-        let h : c < a = omega (arith, ltb-false a c p, eqb-false a c q) in
-        let k : c * m + s < a * m = digits-lt h hs in
-        le-ltb (a * m + r) (c * m + s) (omega arith)
+        let h : suc c ≤ a = omega (arith, ltb-false a c p, eqb-false a c q) in
+        le-ltb (a * m + r) (c * m + s) (omega (arith, mul-le-mul-right m h, suc-mul c m))
+
+-- two numbers with a high part and a low part below m are compared by their high parts first
+pub high-atMost : (final : Bool) (m a c r s : ℕ) → r < m → s < m → atMost final (a * m + r) (c * m + s) ≡ (ltb a c || (eqb a c && atMost final r s))
+high-atMost false m a c r s hr hs = high-below m a c r s hr (le-of-lt hs)
+high-atMost true m a c r s hr hs =
+    sym (leb·suc-suc (a * m + r) (c * m + s)) ∙ ap (leb (suc (a * m + r))) (sym (add-suc (c * m) s))
+    ∙ high-below m a c r (suc s) hr hs ∙ ap (λ (t : Bool). ltb a c || (eqb a c && t)) (leb·suc-suc r s)
 
 -- numbers of equally many digits are compared by their first digits first
-pub number-less : (b a c : ℕ) (u v : List ℕ) → Digits b u → Digits b v → length u ≡ length v
-    → ltb (number b (a ∷ u)) (number b (c ∷ v)) ≡ (ltb a c || (eqb a c && ltb (number b u) (number b v)))
-number-less b a c u v hu hv e =
-    rw (← e) (high-less (b ^ length u) a c (number b u) (number b v) (number-lt b u hu) (rw e (number-lt b v hv)))
-
--- numbers of equally many digits are equal where all digits are
-pub number-same : (b a c : ℕ) (u v : List ℕ) → Digits b u → Digits b v → length u ≡ length v
-    → eqb (number b (a ∷ u)) (number b (c ∷ v)) ≡ (eqb a c && eqb (number b u) (number b v))
-number-same b a c u v hu hv e =
-    rw (← e) (high-same (b ^ length u) (number b u) (number b v) (number-lt b u hu) (rw e (number-lt b v hv)))
-  where
-    high-same : (m r s : ℕ) → r < m → s < m → eqb (a * m + r) (c * m + s) ≡ (eqb a c && eqb r s)
-    high-same m r s hr hs =
-        test-ext (eqb (a * m + r) (c * m + s)) (eqb a c && eqb r s)
-        (λ q. let x : a * m + r ≡ c * m + s = eqb-true (a * m + r) (c * m + s) q in
-        and-i (eqb a c) (eqb r s) (eq-eqb a c (sym (digits-div a hr) ∙ ap (λ (y : ℕ). y / m) x ∙ digits-div c hs))
-        (eq-eqb r s (sym (digits-mod a hr) ∙ ap (λ (y : ℕ). y % m) x ∙ digits-mod c hs)))
-        (λ q. eq-eqb (a * m + r) (c * m + s)
-        (ap₂ (λ (y z : ℕ). y * m + z) (eqb-true a c (and-l (eqb a c) (eqb r s) q)) (eqb-true r s (and-r (eqb a c) (eqb r s) q))))
+pub number-atMost : (final : Bool) (b a c : ℕ) (u v : List ℕ) → Digits b u → Digits b v → length u ≡ length v
+    → atMost final (number b (a ∷ u)) (number b (c ∷ v)) ≡ (ltb a c || (eqb a c && atMost final (number b u) (number b v)))
+number-atMost final b a c u v hu hv e =
+    rw (← e) (high-atMost final (b ^ length u) a c (number b u) (number b v) (number-lt b u hu) (rw e (number-lt b v hv)))
 
 -- ---- the letters of parts of words
 
@@ -185,14 +176,15 @@ letter-at (a ∷ x) (suc p) h = letter-at x p (h .1)
 
 -- a test that holds of every entry of a table of f holds of f i, for each i in it
 pub all-tabulate : (p : ℕ → Bool) (f : ℕ → ℕ) (n : ℕ) → all p (tabulate f n) ≡ true → (i : ℕ) → i < n → p (f i) ≡ true
-all-tabulate p f zero e i h = absurd (not-suc-le-zero h)
-all-tabulate p f (suc n) e zero h = and-l (p (f zero)) (all p (tabulate (λ i. f (suc i)) n)) e
-all-tabulate p f (suc n) e (suc i) h =
-    all-tabulate p (λ j. f (suc j)) n (and-r (p (f zero)) (all p (tabulate (λ j. f (suc j)) n)) e) i (le-of-suc-le-suc h)
+all-tabulate p f n e i h = ap p (sym (tabulate-at f n i 0 h)) ∙ all-at p (tabulate f n) 0 i e (rw length-tabulate h)
 
 -- a test that holds over the list of letters holds of each letter
 pub each-letter : (p : ℕ → Bool) → all p letters ≡ true → {a : ℕ} → a < 4 → p a ≡ true
 each-letter p e {a} h = all-tabulate p (λ i. i) 4 e a h
+
+-- the letters stand in their order
+pub letters-at : {a : ℕ} → a < 4 → getD letters a 0 ≡ a
+letters-at {a} h = eqb-true (getD letters a 0) a (each-letter (λ b. eqb (getD letters b 0) b) refl h)
 
 -- the sum of two letters is a letter
 pub sum-lt : {a b : ℕ} → a < 4 → b < 4 → sum a b < 4
@@ -263,29 +255,6 @@ letter-read {a} h = eqb-true (letterOf (getD capitals a 0)) a (each-letter (λ x
 pub spelled-text : (x : Word) → Letters x → spelled (text x) ≡ x
 spelled-text [] h = refl
 spelled-text (a ∷ x) h = ap₂ (λ (c : ℕ) (y : Word). c ∷ y) (letter-read (h .0)) (spelled-text x (h .1))
-
-module _ {A : Type 0} (p : A → Bool) where
-  -- the first place at which a test holds, where it holds at one, is such a place
-  pub firstPlace-holds : (l : List A) (d : A) → firstPlace p l < length l → p (getD l (firstPlace p l) d) ≡ true
-  firstPlace-holds [] d h = absurd (not-suc-le-zero h)
-  firstPlace-holds (a ∷ l) d h = go (p a) refl (firstPlace-holds l d) h
-    where
-      go : (t : Bool) → p a ≡ t → (firstPlace p l < length l → p (getD l (firstPlace p l) d) ≡ true)
-          → cond t zero (suc (firstPlace p l)) < suc (length l) → p (getD (a ∷ l) (cond t zero (suc (firstPlace p l))) d) ≡ true
-      go true e rec k = e
-      go false e rec k = rec (le-of-suc-le-suc k)
-
-  -- a test fails somewhere exactly if the first place at which it fails is below the length
-  pub firstPlace-all : (l : List A) → ltb (firstPlace (λ a. not (p a)) l) (length l) ≡ not (all p l)
-  firstPlace-all [] = refl
-  firstPlace-all (a ∷ l) = go (p a) (firstPlace-all l)
-    where
-      f : ℕ
-      f = firstPlace (λ b. not (p b)) l
-
-      go : (t : Bool) → ltb f (length l) ≡ not (all p l) → ltb (cond (not t) zero (suc f)) (suc (length l)) ≡ not (t && all p l)
-      go true rec = leb·suc-suc (suc f) (length l) ∙ rec
-      go false rec = lt-ltb zero (suc (length l)) (zero-lt-suc (length l))
 
 -- a byte that is a letter is what this letter is written as
 pub letter-written : {c : ℕ} → isLetter c ≡ true → getD capitals (letterOf c) 0 ≡ c

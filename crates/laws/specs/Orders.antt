@@ -2,21 +2,20 @@
 -- letter by letter. All laws of shelves are proved over these.
 -- Assumes nothing.
 use Prim.Native.Nat.{ℕ, zero, suc, _<_}
-use mathlib.Core.Bool.{Bool, true, false, _&&_, _||_}
-use mathlib.Core.List.{[], _∷_}
+use mathlib.Core.Bool.{Bool, true, false, not, _&&_, _||_}
+use mathlib.Core.List.{[], _∷_, nil≢cons, head-eq-of-cons-eq, tail-eq-of-cons-eq}
 use mathlib.Core.Path.{subst, _≡_, refl, sym, ap, ap₂, _∙_, fun-ext}
-use native.Mathlib.Nat.{suc-inj}
-use native.Mathlib.Omega.{arith}
-use lib.Dec.{ltb, eqb}
+use lib.Dec.{ltb, leb, eqb}
 use lib.ListN.{length, getD}
-use borrow.Author.Tests.{eqb-true, eq-eqb}
+use native.Mathlib.Omega.{arith}
+use borrow.Author.Tests.{eqb-true, eqb-false, eq-eqb, ltb-true, ltb-false, leb-true, leb-false, lt-ltb, le-ltb}
 use Rattle.definitions.specs.Words.{Word, Letters, same, sum, _⊕_, val}
 use Rattle.definitions.specs.Vigemins.{Form, keyed, value, windows, vigemin}
 use Rattle.definitions.specs.Shelves.{postmer}
-use Rattle.laws.specs.Tests.{and-l, and-r, test-ext}
+use Rattle.laws.specs.Tests.{test-ext}
 use Rattle.laws.specs.Filters.{any}
 use Rattle.laws.specs.Minima.{windows-mer, vigemin-is}
-use Rattle.laws.specs.Numbers.{number-less, number-same, letter-at, sum-lt, sum-cancel, sum-zero}
+use Rattle.laws.specs.Numbers.{atMost, number-atMost, number-inj, letter-at, sum-lt, sum-cancel, sum-zero}
 
 -- for each place the rank of each letter
 abbrev pub Ranking : Type 0
@@ -68,14 +67,27 @@ keyed-one-to-one key h = record {
 }
 
 -- what holds of every form that goes letter by letter by one-to-one rankings holds of the keyed form
-pub keyed-law : (P : Form → Type 0) → ((ρ : Ranking) → OneToOne ρ → P (ranked ρ)) → (key : Word) → Letters key → P (keyed key)
-keyed-law P h key hk = subst P (sym (keyed-ranked key)) (h (keyRanking key) (keyed-one-to-one key hk))
+pub keyed-law : (P : Ranking → Form → Type 0) → ((ρ : Ranking) → OneToOne ρ → P ρ (ranked ρ)) → (key : Word) → Letters key → P (keyRanking key) (keyed key)
+keyed-law P h key hk = subst (P (keyRanking key)) (sym (keyed-ranked key)) (h (keyRanking key) (keyed-one-to-one key hk))
 
 -- ---- the order, letter by letter
 
--- x is below y, or, where that is asked, equal to it
-abbrev pub atMost : Bool → ℕ → ℕ → Bool
-atMost final x y = ltb x y || (final && eqb x y)
+-- above is not at most
+pub above-not : (x y : ℕ) → ltb y x ≡ not (leb x y)
+above-not x y = go (leb x y) refl
+  where
+    go : (t : Bool) → leb x y ≡ t → ltb y x ≡ not t
+    go true e = le-ltb y x (leb-true x y e)
+    go false e = lt-ltb y x (leb-false x y e)
+
+-- above is neither equal nor below
+pub above-neither : (x y : ℕ) → ltb y x ≡ (not (eqb x y) && not (ltb x y))
+above-neither x y = go (eqb x y) (ltb x y) refl refl
+  where
+    go : (s t : Bool) → eqb x y ≡ s → ltb x y ≡ t → ltb y x ≡ (not s && not t)
+    go true t p q = le-ltb y x (omega (arith, eqb-true x y p))
+    go false true p q = le-ltb y x (omega (arith, ltb-true x y q))
+    go false false p q = lt-ltb y x (omega (arith, eqb-false x y p, ltb-false x y q))
 
 module _ (ρ : Ranking) (one : OneToOne ρ) where
   -- the ranks of letters are letters
@@ -97,48 +109,26 @@ module _ (ρ : Ranking) (one : OneToOne ρ) where
       test-ext (eqb (ρ p a) (ρ p b)) (eqb a b) (λ e. eq-eqb a b (one .apart p a b ha hb (eqb-true (ρ p a) (ρ p b) e)))
       (λ e. eq-eqb (ρ p a) (ρ p b) (ap (ρ p) (eqb-true a b e)))
 
-  -- words of one length have one number where their letters are the same
-  ranked-same : (p a b : ℕ) (u v : Word) → Letters (a ∷ u) → Letters (b ∷ v) → length u ≡ length v
-      → eqb (val (rankedFrom ρ p (b ∷ v))) (val (rankedFrom ρ p (a ∷ u)))
-      ≡ (eqb b a && eqb (val (rankedFrom ρ (suc p) v)) (val (rankedFrom ρ (suc p) u)))
-  ranked-same p a b u v hu hv e =
-      number-same 4 (ρ p b) (ρ p a) (rankedFrom ρ (suc p) v) (rankedFrom ρ (suc p) u) (ranked-letters (suc p) v (hv .1)) (ranked-letters (suc p) u (hu .1))
-      (ranked-lengths (suc p) v u (sym e))
-      ∙ ap (λ (t : Bool). t && eqb (val (rankedFrom ρ (suc p) v)) (val (rankedFrom ρ (suc p) u))) (rank-same p b a (hv .0) (hu .0))
-
   -- words of one length are compared by the ranks of their first letters first
   pub ranked-atMost : (final : Bool) (p a b : ℕ) (u v : Word) → Letters (a ∷ u) → Letters (b ∷ v) → length u ≡ length v
       → atMost final (val (rankedFrom ρ p (b ∷ v))) (val (rankedFrom ρ p (a ∷ u)))
       ≡ (ltb (ρ p b) (ρ p a) || (eqb b a && atMost final (val (rankedFrom ρ (suc p) v)) (val (rankedFrom ρ (suc p) u))))
   ranked-atMost final p a b u v hu hv e =
-      ap₂ (λ (s t : Bool). s || (final && t))
-      (number-less 4 (ρ p b) (ρ p a) (rankedFrom ρ (suc p) v) (rankedFrom ρ (suc p) u) (ranked-letters (suc p) v (hv .1))
+      number-atMost final 4 (ρ p b) (ρ p a) (rankedFrom ρ (suc p) v) (rankedFrom ρ (suc p) u) (ranked-letters (suc p) v (hv .1))
       (ranked-letters (suc p) u (hu .1)) (ranked-lengths (suc p) v u (sym e))
-      ∙ ap (λ (t : Bool). ltb (ρ p b) (ρ p a) || (t && ltb (val (rankedFrom ρ (suc p) v)) (val (rankedFrom ρ (suc p) u)))) (rank-same p b a (hv .0) (hu .0)))
-      (ranked-same p a b u v hu hv e)
-      ∙ gather (ltb (ρ p b) (ρ p a)) (eqb b a) (ltb (val (rankedFrom ρ (suc p) v)) (val (rankedFrom ρ (suc p) u))) final
-      (eqb (val (rankedFrom ρ (suc p) v)) (val (rankedFrom ρ (suc p) u)))
-    where
-      gather : (l e s f q : Bool) → ((l || (e && s)) || (f && (e && q))) ≡ (l || (e && (s || (f && q))))
-      gather true e s f q = refl
-      gather false true s f q = refl
-      gather false false s true q = refl
-      gather false false s false q = refl
+      ∙ ap (λ (t : Bool). ltb (ρ p b) (ρ p a) || (t && atMost final (val (rankedFrom ρ (suc p) v)) (val (rankedFrom ρ (suc p) u)))) (rank-same p b a (hv .0) (hu .0))
 
-  value-one-from : (p : ℕ) (v w : Word) → Letters v → Letters w → length v ≡ length w
-      → eqb (val (rankedFrom ρ p v)) (val (rankedFrom ρ p w)) ≡ true → v ≡ w
-  value-one-from p [] [] hv hw e q = refl
-  value-one-from p [] (b ∷ w) hv hw e q = absurd (omega (arith, e))
-  value-one-from p (a ∷ v) [] hv hw e q = absurd (omega (arith, e))
-  value-one-from p (a ∷ v) (b ∷ w) hv hw e q =
-      let k : length v ≡ length w = suc-inj e in
-      let t : (eqb a b && eqb (val (rankedFrom ρ (suc p) v)) (val (rankedFrom ρ (suc p) w))) ≡ true = sym (ranked-same p b a w v hw hv (sym k)) ∙ q in
-      ap₂ (λ (x : ℕ) (y : Word). x ∷ y) (eqb-true a b (and-l (eqb a b) (eqb (val (rankedFrom ρ (suc p) v)) (val (rankedFrom ρ (suc p) w))) t))
-      (value-one-from (suc p) v w (hv .1) (hw .1) k (and-r (eqb a b) (eqb (val (rankedFrom ρ (suc p) v)) (val (rankedFrom ρ (suc p) w))) t))
+  ranked-inj : (p : ℕ) (v w : Word) → Letters v → Letters w → rankedFrom ρ p v ≡ rankedFrom ρ p w → v ≡ w
+  ranked-inj p [] [] hv hw q = refl
+  ranked-inj p [] (b ∷ w) hv hw q = absurd (nil≢cons q)
+  ranked-inj p (a ∷ v) [] hv hw q = absurd (nil≢cons (sym q))
+  ranked-inj p (a ∷ v) (b ∷ w) hv hw q =
+      ap₂ (λ (x : ℕ) (y : Word). x ∷ y) (one .apart p a b (hv .0) (hw .0) (head-eq-of-cons-eq q)) (ranked-inj (suc p) v w (hv .1) (hw .1) (tail-eq-of-cons-eq q))
 
   -- words of one length that are compared by one number are one word
   pub value-one : (v w : Word) → Letters v → Letters w → length v ≡ length w → value (ranked ρ) v ≡ value (ranked ρ) w → v ≡ w
-  value-one v w hv hw e q = value-one-from zero v w hv hw e (eq-eqb (value (ranked ρ) v) (value (ranked ρ) w) q)
+  value-one v w hv hw e q =
+      ranked-inj zero v w hv hw (number-inj 4 (ranked ρ v) (ranked ρ w) (ranked-letters zero v hv) (ranked-letters zero w hw) (ranked-lengths zero v w e) q)
 
   -- the vigemin of a k-mer is w exactly if no m-mer of it is below w and w is among them
   pub vigemin-exactly : (w : Word) → Letters w → 0 < length w → (x : Word) → Letters x

@@ -1,31 +1,55 @@
 -- Places below n: whether a test holds at some place, and at which one first.
 -- Assumes nothing.
 use Prim.Native.Nat.{ℕ, zero, suc, _-_, _≤_, _<_}
-use mathlib.Core.Bool.{Bool, true, false, cond, _||_, or-false, or-assoc}
-use mathlib.Core.Logic.{_⊎_, inl, inr}
+use mathlib.Core.Bool.{Bool, true, false, cond, not, _&&_, _||_, or-false, or-assoc}
+use mathlib.Core.List.{List, [], _∷_}
 use mathlib.Core.Path.{_≡_, refl, sym, ap, ap₂, _∙_}
-use native.Mathlib.Nat.{le-of-suc-le-suc, not-suc-le-zero}
+use native.Mathlib.Nat.{le-of-suc-le-suc, not-suc-le-zero, zero-lt-suc}
 use native.Mathlib.Omega.{arith}
-use borrow.Author.Tests.{leb-true, leb-false}
-use lib.Dec.{leb}
-use Rattle.laws.specs.Tests.{or-l, or-r, or-cases, test-ext, contrary}
+use borrow.Author.Tests.{leb-true, leb-false, lt-ltb}
+use lib.Dec.{leb, ltb, leb·suc-suc}
+use lib.ListN.{length, getD}
+use Rattle.definitions.specs.Lists.{all, firstPlace, tabulate}
+use Rattle.laws.specs.Tests.{test-ext, contrary}
+use Rattle.laws.specs.Filters.{any, any-at, at-any, length-tabulate, tabulate-at, tabulate-agree}
+
+module _ {A : Type 0} (p : A → Bool) where
+  -- the first place at which a test holds, where it holds at one, is such a place
+  pub firstPlace-holds : (l : List A) (d : A) → firstPlace p l < length l → p (getD l (firstPlace p l) d) ≡ true
+  firstPlace-holds [] d h = absurd (not-suc-le-zero h)
+  firstPlace-holds (a ∷ l) d h = go (p a) refl (firstPlace-holds l d) h
+    where
+      go : (t : Bool) → p a ≡ t → (firstPlace p l < length l → p (getD l (firstPlace p l) d) ≡ true)
+          → cond t zero (suc (firstPlace p l)) < suc (length l) → p (getD (a ∷ l) (cond t zero (suc (firstPlace p l))) d) ≡ true
+      go true e rec k = e
+      go false e rec k = rec (le-of-suc-le-suc k)
+
+  -- a test fails somewhere exactly if the first place at which it fails is below the length
+  pub firstPlace-all : (l : List A) → ltb (firstPlace (λ a. not (p a)) l) (length l) ≡ not (all p l)
+  firstPlace-all [] = refl
+  firstPlace-all (a ∷ l) = go (p a) (firstPlace-all l)
+    where
+      f : ℕ
+      f = firstPlace (λ b. not (p b)) l
+
+      go : (t : Bool) → ltb f (length l) ≡ not (all p l) → ltb (cond (not t) zero (suc f)) (suc (length l)) ≡ not (t && all p l)
+      go true rec = leb·suc-suc (suc f) (length l) ∙ rec
+      go false rec = lt-ltb zero (suc (length l)) (zero-lt-suc (length l))
 
 -- ---- some place
 
 -- whether a test holds of some number below n
 abbrev pub anyTo : ℕ → (ℕ → Bool) → Bool
-anyTo zero p = false
-anyTo (suc n) p = p zero || anyTo n (λ l. p (suc l))
+anyTo n p = any (λ t. t) (tabulate p n)
 
 -- tests that agree below n hold at some place alike
 pub anyTo-cong : (n : ℕ) {p q : ℕ → Bool} → ((l : ℕ) → l < n → p l ≡ q l) → anyTo n p ≡ anyTo n q
-anyTo-cong zero h = refl
-anyTo-cong (suc n) h = ap₂ (λ (s t : Bool). s || t) (h zero (omega arith)) (anyTo-cong n (λ l k. h (suc l) (omega arith)))
+anyTo-cong n h = ap (any (λ t. t)) (tabulate-agree n h)
 
--- what holds nowhere holds at no place
-pub anyTo-never : (n : ℕ) → anyTo n (λ l. false) ≡ false
-anyTo-never zero = refl
-anyTo-never (suc n) = anyTo-never n
+-- where a test holds at no place it does not hold at some
+pub anyTo-none : (n : ℕ) {p : ℕ → Bool} → ((l : ℕ) → l < n → p l ≡ false) → anyTo n p ≡ false
+anyTo-none zero h = refl
+anyTo-none (suc n) h = ap₂ (λ (s t : Bool). s || t) (h zero (omega arith)) (anyTo-none n (λ l k. h (suc l) (omega arith)))
 
 -- the last place split off
 pub anyTo-last : (n : ℕ) (p : ℕ → Bool) → anyTo (suc n) p ≡ (anyTo n p || p n)
@@ -45,19 +69,18 @@ anyTo-or (suc n) p q = ap (λ (t : Bool). p zero || q zero || t) (anyTo-or n (λ
 
 -- a test that holds of some number below n is found there
 pub anyTo-find : (n : ℕ) (p : ℕ → Bool) → anyTo n p ≡ true → (l : ℕ) × (l < n) × (p l ≡ true)
-anyTo-find zero p e = absurd (contrary false e refl)
-anyTo-find (suc n) p e = go (or-cases (p zero) (anyTo n (λ l. p (suc l))) e) (λ k. anyTo-find n (λ l. p (suc l)) k)
-  where
-    go : (p zero ≡ true) ⊎ (anyTo n (λ l. p (suc l)) ≡ true) → (anyTo n (λ l. p (suc l)) ≡ true → (l : ℕ) × (l < n) × (p (suc l) ≡ true))
-        → (l : ℕ) × (l < suc n) × (p l ≡ true)
-    go (inl a) rec = (zero, omega arith, a)
-    go (inr b) rec = let r = rec b in (suc (r .0), omega (arith, r .1), r .2)
+anyTo-find n p e =
+    let r = any-at (λ t. t) (tabulate p n) false e in
+    let h : r .0 < n = rw length-tabulate at (r .1) in
+    (r .0, h, sym (tabulate-at p n (r .0) false h) ∙ r .2)
 
 -- and makes the whole hold
 pub anyTo-there : (n : ℕ) (p : ℕ → Bool) (l : ℕ) → l < n → p l ≡ true → anyTo n p ≡ true
-anyTo-there zero p l h e = absurd (not-suc-le-zero h)
-anyTo-there (suc n) p zero h e = or-l (p zero) (anyTo n (λ l. p (suc l))) e
-anyTo-there (suc n) p (suc l) h e = or-r (p zero) (anyTo n (λ l. p (suc l))) (anyTo-there n (λ l. p (suc l)) l (le-of-suc-le-suc h) e)
+anyTo-there n p l h e = at-any (λ t. t) (tabulate p n) false l (rw length-tabulate h) (tabulate-at p n l false h ∙ e)
+
+-- a test that another implies below n
+pub anyTo-mono : (n : ℕ) (p q : ℕ → Bool) → ((l : ℕ) → p l ≡ true → q l ≡ true) → anyTo n p ≡ true → anyTo n q ≡ true
+anyTo-mono n p q h e = let r = anyTo-find n p e in anyTo-there n q (r .0) (r .1) (h (r .0) (r .2))
 
 -- going through the numbers below n from above
 pub anyTo-down : (n : ℕ) (p : ℕ → Bool) → anyTo n (λ q. p (n - suc q)) ≡ anyTo n p
@@ -83,8 +106,7 @@ anyTo-stop i n p h none =
 
 -- the least number below n of which a test holds; n where it holds of none
 abbrev pub firstTo : ℕ → (ℕ → Bool) → ℕ
-firstTo zero p = zero
-firstTo (suc n) p = cond (p zero) zero (suc (firstTo n (λ q. p (suc q))))
+firstTo n p = firstPlace (λ t. t) (tabulate p n)
 
 -- it is at most n
 pub firstTo-le : (n : ℕ) (p : ℕ → Bool) → firstTo n p ≤ n
@@ -109,13 +131,8 @@ firstTo-none (suc n) p h = ap₂ (λ (t : Bool) (k : ℕ). cond t zero (suc k)) 
 
 -- the test holds there
 pub firstTo-holds : (n : ℕ) (p : ℕ → Bool) → firstTo n p < n → p (firstTo n p) ≡ true
-firstTo-holds zero p h = absurd (not-suc-le-zero h)
-firstTo-holds (suc n) p h = go (p zero) refl h (λ k. firstTo-holds n (λ q. p (suc q)) k)
-  where
-    go : (t : Bool) → p zero ≡ t → cond t zero (suc (firstTo n (λ q. p (suc q)))) < suc n → (firstTo n (λ q. p (suc q)) < n → p (suc (firstTo n (λ q. p (suc q)))) ≡ true)
-        → p (cond t zero (suc (firstTo n (λ q. p (suc q))))) ≡ true
-    go true e k rec = e
-    go false e k rec = rec (le-of-suc-le-suc k)
+firstTo-holds n p h =
+    sym (tabulate-at p n (firstTo n p) false h) ∙ firstPlace-holds (λ t. t) (tabulate p n) false (rw length-tabulate h)
 
 -- and at no place before
 pub firstTo-before : (n : ℕ) (p : ℕ → Bool) (q : ℕ) → q < firstTo n p → p q ≡ false
@@ -129,5 +146,4 @@ firstTo-before (suc n) p q h = go (p zero) refl q h (λ l k. firstTo-before n (�
 
 -- tests that agree below n hold first at one place
 pub firstTo-cong : (n : ℕ) (p q : ℕ → Bool) → ((l : ℕ) → l < n → p l ≡ q l) → firstTo n p ≡ firstTo n q
-firstTo-cong zero p q h = refl
-firstTo-cong (suc n) p q h = ap₂ (λ (t : Bool) (k : ℕ). cond t zero (suc k)) (h zero (omega arith)) (firstTo-cong n (λ l. p (suc l)) (λ l. q (suc l)) (λ l k. h (suc l) (omega arith)))
+firstTo-cong n p q h = ap (firstPlace (λ t. t)) (tabulate-agree n h)

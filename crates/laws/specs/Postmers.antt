@@ -21,9 +21,9 @@ use Rattle.laws.specs.Counting.{count, count-cong, count-none, count-eve
 use Rattle.laws.specs.Orders.{Ranking, OneToOne, ranked}
 use Rattle.laws.specs.States.{matches, first}
 use Rattle.laws.specs.Tables.{postmer-accepted}
-use Rattle.laws.specs.Prefixes.{sharing, sharingFrom, goesOn, stops, shared-from, shared-is, sharing-split, sharing-past}
+use Rattle.laws.specs.Prefixes.{sharing, sharingFrom, goesOn, stops, shared-from, shared-is, sharing-split, sharing-past, sharing-whole}
 use Rattle.laws.specs.Rules.{Σ, byPrefix}
-use Rattle.laws.specs.ByPrefix.{total-chosen, byPrefix-free, accepted-rule, accepted-whole}
+use Rattle.laws.specs.ByPrefix.{total-chosen, byPrefix-free, accepted-rule}
 
 -- a test that does not look at the word
 count-constant : (t : Bool) (n : ℕ) → count (λ z. t) n ≡ cond t (4 ^ n) 0
@@ -36,6 +36,15 @@ three w i hw h =
     ap (λ (t : Bool). length (filter (λ b. not (t && eqb b (getD w i 0))) letters)) (lt-ltb i (length w) h)
     ∙ eqb-true (length (filter (λ b. not (eqb b (getD w i 0))) letters)) 3
     (each-letter (λ a. eqb (length (filter (λ b. not (eqb b a)) letters)) 3) refl (letter-at w i hw))
+
+-- no m-mer of w itself is below w
+postmer-self : (f : Form) (w : Word) → 0 < length w → postmer f w w ≡ true
+postmer-self f [] pos = absurd (omega arith)
+postmer-self f (a ∷ w) pos =
+    ap₂ (λ (t : Bool) (l : List Word). all (λ v. not (below f (a ∷ w) v)) (put t (take (suc (length w)) (a ∷ w)) l))
+    (le-leb (suc (length w)) (suc (length w)) (omega arith)) (windows-none (suc (length w)) w (omega arith))
+    ∙ ap (λ (v : Word). not (below f (a ∷ w) v) && true) (take-length (a ∷ w))
+    ∙ ap (λ (t : Bool). not t && true) (le-ltb (value f (a ∷ w)) (value f (a ∷ w)) (omega arith))
 
 module _ (f : Form) (w : Word) where
   postmer-short : (z : Word) → length z < length w → postmer f w z ≡ true
@@ -59,6 +68,17 @@ module _ (f : Form) (w : Word) where
       ∙ total-chosen (λ b. not (goesOn w i b)) (4 ^ (n - suc i)) letters
       ∙ ap (λ (c : ℕ). c * 4 ^ (n - suc i)) (three w i hw (omega arith))
 
+  whole : Letters w → (n : ℕ) → n ≤ length w → postmer f w (take n w) ≡ true → sharing w (postmer f w) n n ≡ 1
+  whole hw n h e = sharing-whole w (postmer f w) n hw h ∙ ap (λ (t : Bool). cond t 1 0) e
+
+  -- shorter than m, one shares all its letters with w
+  pub postmers-short-whole : Letters w → (n : ℕ) → n < length w → sharing w (postmer f w) n n ≡ 1
+  postmers-short-whole hw n h = whole hw n (omega arith) (postmer-short (take n w) (omega (arith, length-take-le n w (omega arith))))
+
+  -- of length m, one shares all its letters with w: w itself
+  pub postmers-at-whole : Letters w → 0 < length w → sharing w (postmer f w) (length w) (length w) ≡ 1
+  postmers-at-whole hw pos = whole hw (length w) (omega arith) (ap (postmer f w) (take-length w) ∙ postmer-self f w pos)
+
   sharing-last : (n : ℕ) → sharing w (postmer f w) (length w) n ≡ sharingFrom w (postmer f w) (length w) n
   sharing-last n = omega (arith, sharing-split w (postmer f w) (length w) n, sharing-past w (postmer f w) (suc (length w)) n (omega arith))
 
@@ -74,25 +94,7 @@ module _ (f : Form) (w : Word) where
   pub postmers-begun : (a : ℕ) → postmers f w a ≡ sharing w (postmer f w) (length w) (length w + a)
   postmers-begun a = postmers-from a ∙ sym (sharing-last (length w + a))
 
--- no m-mer of w itself is below w
-postmer-self : (f : Form) (w : Word) → 0 < length w → postmer f w w ≡ true
-postmer-self f [] pos = absurd (omega arith)
-postmer-self f (a ∷ w) pos =
-    ap₂ (λ (t : Bool) (l : List Word). all (λ v. not (below f (a ∷ w) v)) (put t (take (suc (length w)) (a ∷ w)) l))
-    (le-leb (suc (length w)) (suc (length w)) (omega arith)) (windows-none (suc (length w)) w (omega arith))
-    ∙ ap (λ (v : Word). not (below f (a ∷ w) v) && true) (take-length (a ∷ w))
-    ∙ ap (λ (t : Bool). not t && true) (le-ltb (value f (a ∷ w)) (value f (a ∷ w)) (omega arith))
-
 module _ (ρ : Ranking) (one : OneToOne ρ) (w : Word) (hw : Letters w) where
-  whole : (n : ℕ) → 0 < length w → n ≤ length w → postmer (ranked ρ) w (take n w) ≡ true → sharing w (postmer (ranked ρ) w) n n ≡ 1
-  whole n pos h e =
-      accepted-whole ρ one w hw false [] (postmer (ranked ρ) w) (λ z k. postmer-accepted ρ one w hw z pos k) n h ∙ ap (λ (t : Bool). cond t 1 0) e
-
-  -- shorter than m, one shares all its letters with w
-  pub postmers-short-whole : (n : ℕ) → n < length w → sharing w (postmer (ranked ρ) w) n n ≡ 1
-  postmers-short-whole n h =
-      whole n (omega arith) (omega arith) (postmer-short (ranked ρ) w (take n w) (omega (arith, length-take-le n w (omega arith))))
-
   module _ (pos : 0 < length w) where
     -- from length m on, by the letter that follows the shared ones: the m-mer that starts at j counts only if it exists
     pub postmers-rule : (i n : ℕ) → i ≤ length w → i < n → length w ≤ n
@@ -109,10 +111,6 @@ module _ (ρ : Ranking) (one : OneToOne ρ) (w : Word) (hw : Letters w) where
         ∙ byPrefix-free ρ w (λ j. leb (length w + j) (suc (length w))) i (postmer (ranked ρ) w) (length w) (length w - suc i)
         (λ q k. lt-leb (length w + suc (suc q)) (suc (length w)) (omega arith)) refl
         ∙ ap (λ (c : ℕ). length (filter (Σ ρ w (suc i)) letters) * c) (postmers-any (ranked ρ) w (length w - suc i) (omega arith))
-
-    -- of length m, one shares all its letters with w: w itself
-    pub postmers-at-whole : sharing w (postmer (ranked ρ) w) (length w) (length w) ≡ 1
-    postmers-at-whole = whole (length w) pos (omega arith) (ap (postmer (ranked ρ) w) (take-length w) ∙ postmer-self (ranked ρ) w pos)
 
     -- those that share no letter: a letter of Σ1, and a postmer one shorter
     pub postmers-none-shared : (n : ℕ) → length w ≤ suc n

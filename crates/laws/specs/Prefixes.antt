@@ -2,24 +2,25 @@
 -- states, for any acceptor that steps by the states of w.
 -- Assumes nothing.
 use Prim.Native.Nat.{ℕ, zero, suc, _+_, _≤_, _<_}
-use mathlib.Core.Bool.{Bool, true, false, cond, not, _&&_, _||_, and-true, and-false, and-assoc, and-comm, and-or-distrib-left}
-use mathlib.Core.List.{[], _∷_, map, append-nil}
+use mathlib.Core.Bool.{Bool, true, false, cond, not, _&&_, _||_, and-true, and-assoc, and-comm, and-or-distrib-left}
+use mathlib.Core.List.{[], _∷_, map}
 use mathlib.Core.Logic.{⊎-elim}
-use mathlib.Core.Path.{_≡_, refl, sym, ap, fun-ext, _∙_}
-use native.Mathlib.Nat.{add-zero, le-of-suc-le-suc, not-suc-le-zero}
+use mathlib.Core.Path.{_≡_, refl, sym, ap, ap₂, fun-ext, _∙_}
+use native.Mathlib.Nat.{zero-add, add-zero, suc-add, add-suc, add-assoc, le-of-suc-le-suc, not-suc-le-zero}
 use native.Mathlib.Omega.{arith}
 use borrow.Author.Tests.{leb-true, le-leb, lt-leb, eqb-true, eqb-false}
 use lib.Dec.{ltb, leb, eqb, leb·zero, leb·suc-zero, leb·suc-suc, eqb·zero-suc, eqb·suc-zero, eqb·suc-suc}
-use lib.ListN.{length, getD, take, drop}
-use lib.Seq.{length-take-le}
-use Rattle.definitions.specs.Lists.{total}
+use lib.ListN.{length, getD, take, drop, drop-of-length-le}
+use lib.Seq.{length-take-le, take-all}
+use Rattle.definitions.specs.Lists.{total, tabulate}
 use Rattle.definitions.specs.Words.{Word, Letters, Mer, letters, same}
-use Rattle.laws.specs.Tests.{and-r, or-cases, test-ext}
+use Rattle.laws.specs.Tests.{and-r, and-none, and-left-comm, and-cong, or-cases, test-ext, same-eq}
+use Rattle.laws.specs.Filters.{tabulate-agree}
 use Rattle.laws.specs.Numbers.{letters-take}
-use Rattle.laws.specs.Counting.{count, count-split, count-cong, count-none, count-either}
+use Rattle.laws.specs.Counting.{count, count-split, count-cong, count-none, count-either, count-fixed, count-one}
 use Rattle.laws.specs.Walks.{accepts, ways, ways-count}
 use Rattle.laws.specs.States.{next}
-use Rattle.laws.specs.Tables.{through, accepts-append, count-begun, count-begun-by, count-fixed, after-prefix}
+use Rattle.laws.specs.Tables.{through, count-begun, count-begun-by, after-prefix}
 
 -- the length of the longest prefix that a word shares with w
 abbrev pub shared : Word → Word → ℕ
@@ -123,7 +124,7 @@ module _ (w : Word) (p : Word → Bool) where
       apart s a b = omega (arith, eqb-true s i a, leb-true (suc i) s b)
 
   sharing-none : (i n : ℕ) → ((y : Word) → Mer n y → shared w y < i) → sharingFrom w p i n ≡ 0
-  sharing-none i n h = count-cong _ (λ y. false) n (λ y k. ap (λ (t : Bool). p y && t) (lt-leb i (shared w y) (h y k)) ∙ and-false (p y)) ∙ count-none n
+  sharing-none i n h = count-cong _ (λ y. false) n (λ y k. and-none (p y) (leb i (shared w y)) (lt-leb i (shared w y) (h y k))) ∙ count-none n
 
   -- none shares more letters than it has
   pub sharing-short : (i n : ℕ) → n < i → sharingFrom w p i n ≡ 0
@@ -133,12 +134,46 @@ module _ (w : Word) (p : Word → Bool) where
   pub sharing-past : (i n : ℕ) → length w < i → sharingFrom w p i n ≡ 0
   sharing-past i n h = sharing-none i n (λ y k. omega (arith, shared-le w y .0))
 
+  -- those that share at least i letters share i, i + 1 and so on, or at least i + j
+  sharing-tail : (i j n : ℕ) → sharingFrom w p i n ≡ total (tabulate (λ d. sharing w p (i + d) n) j) + sharingFrom w p (i + j) n
+  sharing-tail i zero n = simp (add-zero, zero-add)
+  sharing-tail i (suc j) n =
+      sharing-split i n
+      ∙ ap₂ (λ (a b : ℕ). a + b) (ap (λ (d : ℕ). sharing w p d n) (sym (add-zero i)))
+      (sharing-tail (suc i) j n
+      ∙ ap₂ (λ (s r : ℕ). s + r) (ap total (tabulate-agree j (λ d h. ap (λ (e : ℕ). sharing w p e n) (suc-add i d ∙ sym (add-suc i d)))))
+      (ap (λ (e : ℕ). sharingFrom w p e n) (suc-add i j ∙ sym (add-suc i j))))
+      ∙ sym (add-assoc (sharing w p (i + zero) n) (total (tabulate (λ d. sharing w p (i + suc d) n) j)) (sharingFrom w p (i + suc j) n))
+
+  -- the words that pass a test are those that share 0, 1 and so on up to m letters with w
+  pub sharing-sum : (n : ℕ) → count p n ≡ total (tabulate (λ i. sharing w p i n) (suc (length w)))
+  sharing-sum n =
+      sym (sharing-all n) ∙ sharing-tail zero (suc (length w)) n
+      ∙ ap₂ (λ (s r : ℕ). s + r) (ap total (tabulate-agree (suc (length w)) (λ i h. ap (λ (e : ℕ). sharing w p e n) (zero-add i))))
+      (ap (λ (e : ℕ). sharingFrom w p e n) (zero-add (suc (length w))) ∙ sharing-past (suc (length w)) n (omega arith))
+      ∙ add-zero (total (tabulate (λ i. sharing w p i n) (suc (length w))))
+
+  -- those of i letters that share all i: the first i of w, or none
+  pub sharing-whole : (i : ℕ) → Letters w → i ≤ length w → sharing w p i i ≡ cond (p (take i w)) 1 0
+  sharing-whole i hw h =
+      count-cong _ (λ y. p (take i w) && same y (take i w)) i
+      (λ y k. and-comm (p y) (eqb (shared w y) i) ∙ ap (λ (t : Bool). t && p y) (whole y (k .0))
+      ∙ and-cong (same y (take i w)) (p y) (p (take i w)) (λ e. ap p (same-eq y (take i w) e)) ∙ and-comm (same y (take i w)) (p (take i w)))
+      ∙ count-fixed (p (take i w)) (λ y. same y (take i w)) i
+      ∙ ap (λ (c : ℕ). cond (p (take i w)) c 0) (count-one (take i w) (length-take-le i w h, letters-take i w hw))
+    where
+      whole : (y : Word) → length y ≡ i → eqb (shared w y) i ≡ same y (take i w)
+      whole y e =
+          shared-is w y i h
+          ∙ ap₂ (λ (u v : Word). same u (take i w) && stops w i v) (take-all i y (omega arith)) (drop-of-length-le y {i = i} (omega arith))
+          ∙ and-true (same y (take i w))
+
 -- ---- by states
 
 module _ (w : Word) (hw : Letters w) (ok : ℕ → ℕ → ℕ → Bool) (end : ℕ → Bool) where
   -- whether the first i letters of w are allowed one after the other, with n letters to follow
   abbrev pub clean : ℕ → ℕ → Bool
-  clean i n = through ok (next w) end zero (take i w) n
+  clean i n = through (next w) ok zero (take i w) n
 
   -- those that share at least i letters are the completions of state i
   pub completions : (i n : ℕ) → i ≤ length w
@@ -148,7 +183,7 @@ module _ (w : Word) (hw : Letters w) (ok : ℕ → ℕ → ℕ → Bool) (end : 
       (λ z k. ap (λ (t : Bool). accepts ok (next w) end zero z && t) (shared-from w z i h) ∙ and-comm (accepts ok (next w) end zero z) (same (take i z) (take i w)))
       ∙ ap (λ (l : ℕ). count (λ z. same (take l z) (take i w) && accepts ok (next w) end zero z) (l + n)) (sym (length-take-le i w h))
       ∙ count-begun ok (next w) end zero (take i w) n (letters-take i w hw)
-      ∙ ap (λ (s : ℕ). cond (clean i n) (ways ok (next w) end s n) 0) (after-prefix w ok end i h)
+      ∙ ap (λ (s : ℕ). cond (clean i n) (ways ok (next w) end s n) 0) (after-prefix w i h)
 
   -- one letter after i letters of w
   branch-count : (i n b : ℕ)
@@ -169,31 +204,9 @@ module _ (w : Word) (hw : Letters w) (ok : ℕ → ℕ → ℕ → Bool) (end : 
   prefix-rule i n h =
       count-cong _ (λ z. same (take i z) (take i w) && (accepts ok (next w) end zero z && stops w i (drop i z))) (i + suc n)
       (λ z k. ap (λ (t : Bool). accepts ok (next w) end zero z && t) (shared-is w z i h)
-      ∙ turn (accepts ok (next w) end zero z) (same (take i z) (take i w)) (stops w i (drop i z)))
+      ∙ and-left-comm (accepts ok (next w) end zero z) (same (take i z) (take i w)) (stops w i (drop i z)))
       ∙ ap (λ (l : ℕ). count (λ z. same (take l z) (take i w) && (accepts ok (next w) end zero z && stops w i (drop l z))) (l + suc n)) (sym (length-take-le i w h))
       ∙ count-begun-by ok (next w) end (stops w i) zero (take i w) (suc n) (letters-take i w hw)
-      ∙ ap (λ (s : ℕ). cond (clean i (suc n)) (count (λ v. accepts ok (next w) end s v && stops w i v) (suc n)) 0) (after-prefix w ok end i h)
+      ∙ ap (λ (s : ℕ). cond (clean i (suc n)) (count (λ v. accepts ok (next w) end s v && stops w i v) (suc n)) 0) (after-prefix w i h)
       ∙ ap (λ (c : ℕ). cond (clean i (suc n)) c 0)
       (count-split (λ v. accepts ok (next w) end i v && stops w i v) n ∙ ap (λ (g : ℕ → ℕ). total (map g letters)) (fun-ext (branch-count i n)))
-    where
-      turn : (a s d : Bool) → (a && (s && d)) ≡ (s && (a && d))
-      turn true s d = refl
-      turn false true d = refl
-      turn false false d = refl
-
-  -- those that share all their letters: the first i of w, or none
-  pub prefix-whole : (i : ℕ) → i ≤ length w → sharing w (accepts ok (next w) end zero) i i ≡ cond (accepts ok (next w) end zero (take i w)) 1 0
-  prefix-whole i h =
-      sym (add-zero (sharing w (accepts ok (next w) end zero) i i))
-      ∙ ap (λ (c : ℕ). sharing w (accepts ok (next w) end zero) i i + c) (sym (sharing-short w (accepts ok (next w) end zero) (suc i) i (omega arith)))
-      ∙ sym (sharing-split w (accepts ok (next w) end zero) i i)
-      ∙ ap (sharingFrom w (accepts ok (next w) end zero) i) (sym (add-zero i))
-      ∙ completions i zero h
-      ∙ both (clean i zero) (end i)
-      ∙ ap (λ (t : Bool). cond t 1 0)
-      (ap (λ (s : ℕ). clean i zero && end s) (sym (after-prefix w ok end i h)) ∙ sym (accepts-append ok (next w) end zero (take i w) [])
-      ∙ ap (accepts ok (next w) end zero) (append-nil (take i w)))
-    where
-      both : (a b : Bool) → _≡_ {A = ℕ} (cond a (cond b 1 0) 0) (cond (a && b) 1 0)
-      both true b = refl
-      both false b = refl

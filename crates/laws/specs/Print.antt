@@ -2,19 +2,19 @@
 -- computed case in which it differs from the count that it stands for. Places are counted from 1, as there.
 -- Assumes nothing.
 use Prim.Native.Nat.{ℕ, zero, suc, _+_, _-_, _*_, _^_}
-use mathlib.Core.Bool.{Bool, cond, not, _&&_, _||_}
-use mathlib.Core.List.{List, [], _∷_, map}
+use mathlib.Core.Bool.{Bool, true, cond, not}
+use mathlib.Core.List.{[], _∷_, map}
 use mathlib.Core.Path.{_≡_, refl}
 use lib.Dec.{leb, eqb}
 use lib.ListN.{length, getD}
-use Rattle.definitions.specs.Lists.{filter, all, tabulate, total}
+use Rattle.definitions.specs.Lists.{filter, tabulate, total}
 use Rattle.definitions.specs.Words.{Word, letters}
 use Rattle.definitions.specs.Vigemins.{keyed}
 use Rattle.definitions.specs.Shelves.{size, antemers, postmer, postmers}
 use Rattle.laws.specs.Counting.{count}
 use Rattle.laws.specs.Orders.{keyRanking}
 use Rattle.laws.specs.Prefixes.{sharing}
-use Rattle.laws.specs.Rules.{less, isEqual, R, Σ, isLetter}
+use Rattle.laws.specs.Rules.{less, R, Σ, own, T as leastTie, restrained, exists}
 
 -- f first and so on up to f last
 abbrev pub sumOver : ℕ → ℕ → (ℕ → ℕ) → ℕ
@@ -34,21 +34,13 @@ module _ (key w : Word) where
   abbrev pub Pall : ℕ → ℕ
   Pall = count (postmer (keyed key) w)
 
-  -- the starts j from 2 to i+1 with R(i,j) equal; at i+1 it is, since no letters are compared there
-  abbrev pub starts : ℕ → List ℕ
-  starts i = filter (λ j. isEqual (R (keyRanking key) w i j)) (tabulate (λ d. 2 + d) i)
-
-  -- Definition 6, Ti(b): the least of those starts at which b is the next letter of w; 0 where there is none
+  -- Definition 6, Ti(b): the T of Rules where every m-mer counts, and 0 where there is none
   abbrev pub T : ℕ → ℕ → ℕ
-  T i b = getD (filter (λ j. isLetter (keyRanking key) w (2 + i - j) b) (starts i)) 0 0
-
-  -- whether a word of length β has an m-mer that starts at j
-  abbrev pub fits : ℕ → ℕ → Bool
-  fits β j = leb (length w + j - 1) β
+  T i b = let t = leastTie (keyRanking key) w (λ j. true) i b in cond (leb t (suc i)) t 0
 
   -- equation (3): T, or 0 where the m-mer that starts there does not exist
   abbrev pub Tfit : ℕ → ℕ → ℕ → ℕ
-  Tfit i β b = cond (fits β (T i b)) (T i b) 0
+  Tfit i β b = cond (exists w [] β (T i b)) (T i b) 0
 
   -- what Lemma 5 and Proposition 3 share: over an alphabet, the sum of P(β−(i+1)) where T is 0, else of Pi'(next T) for i' from i−T+2 to last T
   abbrev pub rightSide : (ℕ → Bool) → (ℕ → ℕ) → (ℕ → ℕ) → (ℕ → ℕ) → ℕ → ℕ → ℕ
@@ -57,7 +49,7 @@ module _ (key w : Word) where
 
   -- Lemma 5 for 0 < i < β < m, over the length at which the inner sum counts
   abbrev pub lemma5 : (ℕ → ℕ) → ℕ → ℕ → ℕ
-  lemma5 next i β = rightSide (λ b. not (isLetter (keyRanking key) w (suc i) b)) (T i) (λ t. suc β - t) next i β
+  lemma5 next i β = rightSide (λ b. not (own w (suc i) b)) (T i) (λ t. suc β - t) next i β
 
   -- the print counts at the length β + T + 1: the plus should be a minus
   abbrev pub lemma5Printed : ℕ → ℕ → ℕ
@@ -71,15 +63,9 @@ module _ (key w : Word) where
   abbrev pub lemma6Printed : ℕ
   lemma6Printed = lemma6 1
 
-  -- Lemma 8's alphabet: Σ(i+1), and for each start that a test takes as a restraint, Σ(i−j+2) with a(i−j+2)
-  abbrev pub ΣP : (ℕ → Bool) → ℕ → ℕ → Bool
-  ΣP restrains i b =
-      Σ (keyRanking key) w (suc i) b
-      && all (λ j. Σ (keyRanking key) w (2 + i - j) b || isLetter (keyRanking key) w (2 + i - j) b) (filter restrains (starts i))
-
-  -- Proposition 3 over that alphabet
+  -- Proposition 3 over the letters that may follow where a test says which starts restrain (Lemma 8's alphabet)
   abbrev pub prop3 : (ℕ → Bool) → ℕ → ℕ → ℕ
-  prop3 restrains i β = rightSide (ΣP restrains i) (Tfit i β) (λ t. length w) (λ t. suc β - t) i β
+  prop3 restrains i β = rightSide (restrained (keyRanking key) w restrains i) (Tfit i β) (λ t. length w) (λ t. suc β - t) i β
 
   -- the print takes a start as a restraint where the letter a(i−j+2) has some usable T: the m-mer that starts at j itself need not exist
   abbrev pub lemma8Printed : ℕ → ℕ → ℕ
@@ -87,7 +73,7 @@ module _ (key w : Word) where
 
   -- the print, Lemma 8 mended: it has no test whether R(i,j) is below, and so counts on where that m-mer exists and bans the word
   abbrev pub prop3Printed : ℕ → ℕ → ℕ
-  prop3Printed i β = prop3 (fits β) i β
+  prop3Printed i β = prop3 (exists w [] β) i β
 
 -- ---- the cases, spelled out
 
@@ -109,7 +95,7 @@ pub lemma6-wrong : (lemma6Printed aaa aca ≡ 12) × (lemma6 aaa aca 0 ≡ 60) �
 lemma6-wrong = (refl, refl, refl)
 
 -- key TAA, word AAA (case W3): Lemma 8 as printed gives 1 for P3(4); with restraints from m-mers that exist it gives 4, which is right
-pub lemma8-wrong : (lemma8Printed taa aaa 3 4 ≡ 1) × (prop3 taa aaa (fits taa aaa 4) 3 4 ≡ 4) × (P taa aaa 3 4 ≡ 4)
+pub lemma8-wrong : (lemma8Printed taa aaa 3 4 ≡ 1) × (prop3 taa aaa (exists aaa [] 4) 3 4 ≡ 4) × (P taa aaa 3 4 ≡ 4)
 lemma8-wrong = (refl, refl, refl)
 
 -- in that case the size for k = 4, by Proposition 1 over Lemma 8 as printed, is 1, where 4 is right

@@ -7,22 +7,23 @@ use mathlib.Core.List.{[], _∷_, _++_, map}
 use mathlib.Core.Path.{_≡_, refl, sym, ap, ap₂, _∙_}
 use native.Mathlib.Nat.{zero-add, add-zero, suc-add, add-suc, suc-inj, not-suc-le-zero}
 use native.Mathlib.Omega.{arith}
-use borrow.Author.Tests.{ltb-true, ltb-false, lt-ltb, le-ltb, leb-true, leb-false, le-leb, lt-leb, eqb-true, eq-eqb, not-true, not-false}
+use borrow.Author.Tests.{ltb-true, ltb-false, lt-ltb, le-ltb, leb-true, leb-false, le-leb, lt-leb, eqb-true, eq-eqb, not-true}
 use lib.Dec.{ltb, leb, eqb}
 use lib.ListN.{length, getD, take, drop, length-drop, drop-of-length-le}
 use lib.Seq.{take-suc, length-take-le, drop-append-le}
 use Rattle.definitions.specs.Lists.{total}
 use Rattle.definitions.specs.Words.{Word, Letters, letters, val, same}
 use Rattle.definitions.specs.Vigemins.{value}
-use Rattle.laws.specs.Tests.{not-or, and-l, and-r, and-i, and-cong, test-ext, contrary, same-eq, same-refl}
+use Rattle.laws.specs.Tests.{not-or, and-left-comm, and-l, and-r, and-i, and-cong, test-ext, leb-cong, contrary, same-eq, eq-same}
 use Rattle.laws.specs.Places.{anyTo, anyTo-cong, anyTo-last, anyTo-there, anyTo-down, anyTo-stop, firstTo, firstTo-le, firstTo-is, firstTo-none, firstTo-holds, firstTo-before}
-use Rattle.laws.specs.Numbers.{high-less, number-append, letters-take, letters-drop, letter-at}
-use Rattle.laws.specs.Orders.{Ranking, OneToOne, ranked, rankedFrom, rank-same, value-one}
-use Rattle.laws.specs.States.{matches, first, next, matches-all, matches-short, longest-matches, longest-le, longest-is}
+use Rattle.laws.specs.Numbers.{high-atMost, number-append, letters-take, letters-drop, letter-at}
+use Rattle.laws.specs.Counting.{map-agree, letters-lt}
+use Rattle.laws.specs.Orders.{Ranking, OneToOne, ranked, rankedFrom, rank-same, value-one, above-neither}
+use Rattle.laws.specs.States.{matches, first, next, matches-all, matches-short, matches-long, longest-matches, longest-le, longest-is}
 use Rattle.laws.specs.Threads.{bad}
-use Rattle.laws.specs.Acceptors.{belowHit, above-not}
+use Rattle.laws.specs.Acceptors.{belowHit}
 use Rattle.laws.specs.Walks.{accepts, ways}
-use Rattle.laws.specs.Tables.{fine, fineAt, doneAt, allFine, allFine-match, through-fine, ways-free}
+use Rattle.laws.specs.Tables.{fine, fineAt, doneAt, allFine, allFine-match, through-fine, ways-free, through}
 use Rattle.laws.specs.Prefixes.{goesOn, sharing, sharingFrom, completions, prefix-rule}
 
 -- below, equal or above
@@ -45,25 +46,25 @@ isEqual less = false
 isEqual equal = true
 isEqual greater = false
 
-module _ (ρ : Ranking) (w : Word) where
-  -- the letters aj..ai of w
-  abbrev pub stretch : ℕ → ℕ → Word
-  stretch i zero = []
-  stretch i (suc p) = drop p (take i w)
+-- the letters aj..ai of w
+abbrev pub stretch : Word → ℕ → ℕ → Word
+stretch w i zero = []
+stretch w i (suc p) = drop p (take i w)
 
+-- whether a letter is ai, w's own there
+abbrev pub own : Word → ℕ → ℕ → Bool
+own w zero b = false
+own w (suc l) b = goesOn w l b
+
+module _ (ρ : Ranking) (w : Word) where
   -- R(i,j): the sign of aj..ai against the letters of w from a1 on, both keyed by c1 and so on
   abbrev pub R : ℕ → ℕ → Sign
-  R i j = sign (value (ranked ρ) (stretch i j)) (value (ranked ρ) (take (length (stretch i j)) w))
+  R i j = sign (value (ranked ρ) (stretch w i j)) (value (ranked ρ) (take (length (stretch w i j)) w))
 
   -- whether a letter lies in the special alphabet Σi: it ranks above ai there. Σ(m+1) has all four letters
   abbrev pub Σ : ℕ → ℕ → Bool
   Σ zero b = false
   Σ (suc l) b = leb (length w) l || ltb (ρ l (getD w l 0)) (ρ l b)
-
-  -- whether a letter is ai
-  abbrev pub isLetter : ℕ → ℕ → Bool
-  isLetter zero b = false
-  isLetter (suc l) b = goesOn w l b
 
   -- counts j tells whether the m-mer that starts at j counts
   module _ (counts : ℕ → Bool) where
@@ -74,11 +75,11 @@ module _ (ρ : Ranking) (w : Word) where
     -- whether the letter b may follow i shared letters: it lies in Σ(i+1), and for every j from 2 to i+1 with R(i,j) equal it lies in
     -- Σ(i−j+2) or is a(i−j+2). At j = i+1 no letters are compared, which counts as equal, and that letter is a1
     abbrev pub restrained : ℕ → ℕ → Bool
-    restrained i b = Σ (suc i) b && not (anyTo i (λ q. counts (suc (suc q)) && isEqual (R i (suc (suc q))) && not (Σ (i - q) b || isLetter (i - q) b)))
+    restrained i b = Σ (suc i) b && not (anyTo i (λ q. counts (suc (suc q)) && isEqual (R i (suc (suc q))) && not (Σ (i - q) b || own w (i - q) b)))
 
     -- T: the least j from 2 to i+1 with R(i,j) equal and b = a(i−j+2); i+2 where there is none
     abbrev pub T : ℕ → ℕ → ℕ
-    T i b = suc (suc (firstTo i (λ q. counts (suc (suc q)) && isEqual (R i (suc (suc q))) && isLetter (i - q) b)))
+    T i b = suc (suc (firstTo i (λ q. counts (suc (suc q)) && isEqual (R i (suc (suc q))) && own w (i - q) b)))
 
     -- the rule for words of n letters that share exactly i with w, from the number of those that share at least so many: none where
     -- the shared letters ban them; else, for each letter that may follow, those T−1 shorter that share at least i−T+2 letters
@@ -136,7 +137,7 @@ module _ (ρ : Ranking) (one : OneToOne ρ) (w : Word) (hw : Letters w) where
   value-same : (u v : Word) → Letters u → Letters v → length u ≡ length v → eqb (value (ranked ρ) u) (value (ranked ρ) v) ≡ same u v
   value-same u v hu hv e =
       test-ext (eqb (value (ranked ρ) u) (value (ranked ρ) v)) (same u v)
-      (λ q. ap (same u) (sym (value-one ρ one u v hu hv e (eqb-true (value (ranked ρ) u) (value (ranked ρ) v) q))) ∙ same-refl u)
+      (λ q. eq-same (value-one ρ one u v hu hv e (eqb-true (value (ranked ρ) u) (value (ranked ρ) v) q)))
       (λ q. eq-eqb (value (ranked ρ) u) (value (ranked ρ) v) (ap (value (ranked ρ)) (same-eq u v q)))
 
   ranked-last : (p : ℕ) (u : Word) (x : ℕ) → rankedFrom ρ p (u ++ (x ∷ [])) ≡ rankedFrom ρ p u ++ (ρ (p + length u) x ∷ [])
@@ -168,7 +169,7 @@ module _ (ρ : Ranking) (one : OneToOne ρ) (w : Word) (hw : Letters w) where
       ∙ ap₂ ltb (value-last S (getD w i 0)) (value-last (take l w) (getD w l 0))
       ∙ ap₂ (λ (m n : ℕ). ltb (value (ranked ρ) S * 4 + ρ m (getD w i 0)) (value (ranked ρ) (take l w) * 4 + ρ n (getD w l 0))) (length-between w p l i e (omega arith))
       (length-take-le l w (omega arith))
-      ∙ high-less 4 (value (ranked ρ) S) (value (ranked ρ) (take l w)) (ρ l (getD w i 0)) (ρ l (getD w l 0)) (one .small l (getD w i 0) (letter-at w i hw))
+      ∙ high-atMost false 4 (value (ranked ρ) S) (value (ranked ρ) (take l w)) (ρ l (getD w i 0)) (ρ l (getD w l 0)) (one .small l (getD w i 0) (letter-at w i hw))
       (one .small l (getD w l 0) (letter-at w l hw))
       ∙ ap₂ (λ (x y : Bool). x || (y && ltb (ρ l (getD w i 0)) (ρ l (getD w l 0)))) (sym (against isLess ltb sign-less)) (sym (against isEqual eqb sign-equal))
     where
@@ -184,9 +185,6 @@ module _ (ρ : Ranking) (one : OneToOne ρ) (w : Word) (hw : Letters w) where
 abbrev pub exists : Word → Word → ℕ → ℕ → Bool
 exists w t n j = leb (length w + j) (suc (n + length t))
 
-leb-cong : (a b c d : ℕ) → (a ≤ b → c ≤ d) → (c ≤ d → a ≤ b) → leb a b ≡ leb c d
-leb-cong a b c d f g = test-ext (leb a b) (leb c d) (λ e. le-leb c d (f (leb-true a b e))) (λ e. le-leb a b (g (leb-true c d e)))
-
 -- ---- the letter that follows a shared prefix
 
 module _ (ρ : Ranking) (one : OneToOne ρ) (w : Word) (hw : Letters w) where
@@ -197,13 +195,11 @@ module _ (ρ : Ranking) (one : OneToOne ρ) (w : Word) (hw : Letters w) where
   rank-above : (l b : ℕ) → l < length w → b < 4 → Σ ρ w (suc l) b ≡ (not (goesOn w l b) && not (ltb (ρ l b) (ρ l (getD w l 0))))
   rank-above l b h hb =
       ap (λ (t : Bool). t || ltb (ρ l (getD w l 0)) (ρ l b)) (lt-leb (length w) l h)
-      ∙ above-not (ρ l b) (ρ l (getD w l 0))
-      ∙ not-or (ltb (ρ l b) (ρ l (getD w l 0))) (eqb (ρ l b) (ρ l (getD w l 0)))
-      ∙ ap (λ (t : Bool). not (ltb (ρ l b) (ρ l (getD w l 0))) && not t) (rank-same ρ one l b (getD w l 0) hb (letter-at w l hw) ∙ sym (on-w l b h))
-      ∙ and-comm (not (ltb (ρ l b) (ρ l (getD w l 0)))) (not (goesOn w l b))
+      ∙ above-neither (ρ l b) (ρ l (getD w l 0))
+      ∙ ap (λ (t : Bool). not t && not (ltb (ρ l b) (ρ l (getD w l 0)))) (rank-same ρ one l b (getD w l 0) hb (letter-at w l hw) ∙ sym (on-w l b h))
 
   -- and one that ranks above w's or is it does not rank below it
-  rank-not-below : (l b : ℕ) → l < length w → b < 4 → (Σ ρ w (suc l) b || isLetter ρ w (suc l) b) ≡ not (ltb (ρ l b) (ρ l (getD w l 0)))
+  rank-not-below : (l b : ℕ) → l < length w → b < 4 → (Σ ρ w (suc l) b || own w (suc l) b) ≡ not (ltb (ρ l b) (ρ l (getD w l 0)))
   rank-not-below l b h hb =
       ap (λ (t : Bool). t || goesOn w l b) (rank-above l b h hb) ∙ go (ltb (ρ l b) (ρ l (getD w l 0))) (goesOn w l b) refl refl
     where
@@ -245,19 +241,14 @@ module _ (ρ : Ranking) (one : OneToOne ρ) (w : Word) (hw : Letters w) where
     hits-starts : (i r b : ℕ) → i ≤ length w → b < 4
         → anyTo i (hitAt i r b)
         ≡ anyTo i (λ q. exists w t (i + suc r) (suc (suc q)) && isEqual (R ρ w i (suc (suc q)))
-        && not (Σ ρ w (i - q) b || isLetter ρ w (i - q) b))
+        && not (Σ ρ w (i - q) b || own w (i - q) b))
     hits-starts i r b h hb = sym (anyTo-down i (hitAt i r b)) ∙ anyTo-cong i each
       where
-        turn : (m e l : Bool) → (m && (e && l)) ≡ (e && m && l)
-        turn true true l = refl
-        turn true false l = refl
-        turn false true l = refl
-        turn false false l = refl
-
         at : (q l : ℕ) → suc q + l ≡ i → hitAt i r b l
-            ≡ (exists w t (i + suc r) (suc (suc q)) && isEqual (R ρ w i (suc (suc q))) && not (Σ ρ w (suc l) b || isLetter ρ w (suc l) b))
+            ≡ (exists w t (i + suc r) (suc (suc q)) && isEqual (R ρ w i (suc (suc q))) && not (Σ ρ w (suc l) b || own w (suc l) b))
         at q l e =
-            turn (matches w l (first w i)) (leb (length w) (l + suc (r + length t))) (ltb (ρ l b) (ρ l (getD w l 0)))
+            and-left-comm (matches w l (first w i)) (leb (length w) (l + suc (r + length t))) (ltb (ρ l b) (ρ l (getD w l 0)))
+            ∙ sym (and-assoc (leb (length w) (l + suc (r + length t))) (matches w l (first w i)) (ltb (ρ l b) (ρ l (getD w l 0))))
             ∙ ap₂ (λ (x y : Bool). x && y && ltb (ρ l b) (ρ l (getD w l 0)))
             (leb-cong (length w) (l + suc (r + length t)) (length w + suc (suc q)) (suc (i + suc r + length t)) (λ k. omega arith) (λ k. omega arith))
             (sym (equal-matches ρ one w hw (suc q) l i e h))
@@ -265,10 +256,10 @@ module _ (ρ : Ranking) (one : OneToOne ρ) (w : Word) (hw : Letters w) where
             (sym (Bool·not-not (ltb (ρ l b) (ρ l (getD w l 0)))) ∙ ap not (sym (rank-not-below l b (omega arith) hb)))
 
         each : (q : ℕ) → q < i → hitAt i r b (i - suc q)
-            ≡ (exists w t (i + suc r) (suc (suc q)) && isEqual (R ρ w i (suc (suc q))) && not (Σ ρ w (i - q) b || isLetter ρ w (i - q) b))
+            ≡ (exists w t (i + suc r) (suc (suc q)) && isEqual (R ρ w i (suc (suc q))) && not (Σ ρ w (i - q) b || own w (i - q) b))
         each q k =
             at q (i - suc q) (omega arith)
-            ∙ ap (λ (n : ℕ). exists w t (i + suc r) (suc (suc q)) && isEqual (R ρ w i (suc (suc q))) && not (Σ ρ w n b || isLetter ρ w n b))
+            ∙ ap (λ (n : ℕ). exists w t (i + suc r) (suc (suc q)) && isEqual (R ρ w i (suc (suc q))) && not (Σ ρ w n b || own w n b))
             (let e : suc (i - suc q) ≡ i - q = omega arith in e)
 
     -- a letter that does not go on with w is fine exactly if it is restrained so
@@ -362,25 +353,26 @@ module _ (ρ : Ranking) (one : OneToOne ρ) (w : Word) (hw : Letters w) (final :
           ∙ ap₂ (λ (x y : Bool). x || (ltb i (length w) && y)) (sym (row-hits i r h free)) (le-ltb (ρ i (getD w i 0)) (ρ i (getD w i 0)) (omega arith))
           ∙ ap (λ (x : Bool). row (i + suc r) || x) (and-false (ltb i (length w))) ∙ or-false (row (i + suc r))
 
-  tied-matches : (i b q : ℕ) → i ≤ length w → q < i → (isEqual (R ρ w i (suc (suc q))) && isLetter ρ w (i - q) b) ≡ matches w (i - q) (b ∷ first w i)
+  tied-matches : (i b q : ℕ) → i ≤ length w → q < i → (isEqual (R ρ w i (suc (suc q))) && own w (i - q) b) ≡ matches w (i - q) (b ∷ first w i)
   tied-matches i b q h k = at (i - suc q) (omega arith) ∙ ap (λ (n : ℕ). matches w n (b ∷ first w i)) (sym up)
     where
       up : i - q ≡ suc (i - suc q)
       up = omega arith
 
-      at : (l : ℕ) → suc q + l ≡ i → (isEqual (R ρ w i (suc (suc q))) && isLetter ρ w (i - q) b) ≡ matches w (suc l) (b ∷ first w i)
+      at : (l : ℕ) → suc q + l ≡ i → (isEqual (R ρ w i (suc (suc q))) && own w (i - q) b) ≡ matches w (suc l) (b ∷ first w i)
       at l e =
-          ap₂ (λ (x : Bool) (n : ℕ). x && isLetter ρ w n b) (equal-matches ρ one w hw (suc q) l i e h) (let d : i - q ≡ suc l = omega arith in d)
+          ap₂ (λ (x : Bool) (n : ℕ). x && own w n b) (equal-matches ρ one w hw (suc q) l i e h) (let d : i - q ≡ suc l = omega arith in d)
           ∙ ap (λ (x : Bool). matches w l (first w i) && x) (on-w ρ one w hw l b (omega arith))
           ∙ and-comm (matches w l (first w i)) (eqb b (getD w l 0))
 
-  -- the next state is the longest tie: i−T+2, where every m-mer counts
-  next-tied : (i b : ℕ) → i ≤ length w → goesOn w i b ≡ false
-      → next w i b ≡ i - firstTo i (λ q. isEqual (R ρ w i (suc (suc q))) && isLetter ρ w (i - q) b)
-  next-tied i b h off = longest-is w (length w) (b ∷ first w i) (i - start) (omega arith) (tie (ltb start i) refl) high
+  -- the state after i letters of w and one that does not go on is i−T+2, where every m-mer counts
+  pub next-tied : (i b : ℕ) → i ≤ length w → goesOn w i b ≡ false → next w i b ≡ suc (suc i) - T ρ w (λ j. true) i b
+  next-tied i b h off =
+      let e : i - start ≡ suc (suc i) - suc (suc start) = omega arith in
+      longest-is w (length w) (b ∷ first w i) (i - start) (omega arith) (tie (ltb start i) refl) high ∙ e
     where
       tied : ℕ → Bool
-      tied q = isEqual (R ρ w i (suc (suc q))) && isLetter ρ w (i - q) b
+      tied q = isEqual (R ρ w i (suc (suc q))) && own w (i - q) b
 
       start : ℕ
       start = firstTo i tied
@@ -393,7 +385,7 @@ module _ (ρ : Ranking) (one : OneToOne ρ) (w : Word) (hw : Letters w) (final :
       later l k m true p =
           let e : l ≡ i = omega (arith, leb-true l i p) in
           ap (λ (x : Bool). x && matches w l (first w i)) (ap (λ (n : ℕ). eqb b (getD w n 0)) e ∙ sym (on-w ρ one w hw i b (omega arith)) ∙ off)
-      later l k m false p = ap (λ (x : Bool). eqb b (getD w l 0) && x) (matches-short w i l (leb-false l i p)) ∙ and-false (eqb b (getD w l 0))
+      later l k m false p = matches-long w i b (suc l) (omega (arith, leb-false l i p))
 
       earlier : (l : ℕ) → i - start < l → l ≤ i → matches w l (b ∷ first w i) ≡ false
       earlier l k m =
@@ -410,26 +402,21 @@ module _ (ρ : Ranking) (one : OneToOne ρ) (w : Word) (hw : Letters w) (final :
 
 -- a sum over the letters
 total-letters : (f g : ℕ → ℕ) → ((b : ℕ) → b < 4 → f b ≡ g b) → total (map f letters) ≡ total (map g letters)
-total-letters f g h =
-    let e0 : f 0 ≡ g 0 = h 0 (omega arith) in
-    let e1 : f 1 ≡ g 1 = h 1 (omega arith) in
-    let e2 : f 2 ≡ g 2 = h 2 (omega arith) in
-    let e3 : f 3 ≡ g 3 = h 3 (omega arith) in
-    omega arith
+total-letters f g h = ap total (map-agree f g letters (λ b m. h b (letters-lt m)))
 
 -- ---- the rule
 
-module _ (ρ : Ranking) (one : OneToOne ρ) (w : Word) (hw : Letters w) (final : Bool) (t : Word) where
-  -- the words that no thread catches
-  abbrev pub uncaught : Word → Bool
-  uncaught = accepts (fineAt w (belowHit ρ w) final t) (next w) (doneAt w (belowHit ρ w) final t) zero
+-- the words that no thread catches
+abbrev pub uncaught : Ranking → Word → Bool → Word → Word → Bool
+uncaught ρ w final t = accepts (fineAt w (belowHit ρ w) final t) (next w) (doneAt w (belowHit ρ w) final t) zero
 
+module _ (ρ : Ranking) (one : OneToOne ρ) (w : Word) (hw : Letters w) (final : Bool) (t : Word) where
   -- the ways to complete a state
   abbrev completing : ℕ → ℕ → ℕ
   completing = ways (fineAt w (belowHit ρ w) final t) (next w) (doneAt w (belowHit ρ w) final t)
 
   -- those that share at least s letters complete state s, where these letters were fine
-  shared-complete : (s r : ℕ) → s ≤ length w → allFine w (belowHit ρ w) final t (first w s) r ≡ true → sharingFrom w uncaught s (s + r) ≡ completing s r
+  shared-complete : (s r : ℕ) → s ≤ length w → allFine w (belowHit ρ w) final t (first w s) r ≡ true → sharingFrom w (uncaught ρ w final t) s (s + r) ≡ completing s r
   shared-complete s r h e =
       completions w hw (fineAt w (belowHit ρ w) final t) (doneAt w (belowHit ρ w) final t) s r h
       ∙ ap (λ (x : Bool). cond x (completing s r) 0) (through-fine w (belowHit ρ w) final t s r h ∙ e)
@@ -437,14 +424,14 @@ module _ (ρ : Ranking) (one : OneToOne ρ) (w : Word) (hw : Letters w) (final :
   module _ (i r b : ℕ) (h : i ≤ length w) (off : goesOn w i b ≡ false) (ok : fineAt w (belowHit ρ w) final t i r b ≡ true)
       (kept : allFine w (belowHit ρ w) final t (first w i) (suc r) ≡ true) where
     abbrev tied : ℕ → Bool
-    tied q = isEqual (R ρ w i (suc (suc q))) && isLetter ρ w (i - q) b
+    tied q = isEqual (R ρ w i (suc (suc q))) && own w (i - q) b
 
     abbrev counted : ℕ → Bool
-    counted q = exists w t (i + suc r) (suc (suc q)) && isEqual (R ρ w i (suc (suc q))) && isLetter ρ w (i - q) b
+    counted q = exists w t (i + suc r) (suc (suc q)) && isEqual (R ρ w i (suc (suc q))) && own w (i - q) b
 
     counted-tied : (q : ℕ) (x y : Bool) → exists w t (i + suc r) (suc (suc q)) ≡ x → tied q ≡ y → counted q ≡ (x && y)
     counted-tied q x y p e =
-        and-assoc (exists w t (i + suc r) (suc (suc q))) (isEqual (R ρ w i (suc (suc q)))) (isLetter ρ w (i - q) b) ∙ ap₂ (λ (u v : Bool). u && v) p e
+        and-assoc (exists w t (i + suc r) (suc (suc q))) (isEqual (R ρ w i (suc (suc q)))) (own w (i - q) b) ∙ ap₂ (λ (u v : Bool). u && v) p e
 
     untied : (q : ℕ) → tied q ≡ false → counted q ≡ false
     untied q e = counted-tied q (exists w t (i + suc r) (suc (suc q))) false refl e ∙ and-false (exists w t (i + suc r) (suc (suc q)))
@@ -453,38 +440,38 @@ module _ (ρ : Ranking) (one : OneToOne ρ) (w : Word) (hw : Letters w) (final :
     uncounted q p = counted-tied q false (tied q) p refl
 
     -- after the letter b the rest completes the next state
-    to-next : sharingFrom w uncaught (next w i b) (next w i b + r) ≡ completing (next w i b) r
+    to-next : sharingFrom w (uncaught ρ w final t) (next w i b) (next w i b + r) ≡ completing (next w i b) r
     to-next =
         shared-complete (next w i b) r (longest-le w (length w) (b ∷ first w i))
         (allFine-match w (belowHit ρ w) final t (next w i b) (b ∷ first w i) r (longest-matches w (length w) (b ∷ first w i))
         (and-i (fineAt w (belowHit ρ w) final t i r b) (allFine w (belowHit ρ w) final t (first w i) (suc r)) ok kept))
 
     -- T leads to the next state; where there is none, all that begins with nothing completes as many
-    after-letter : completing (next w i b) r ≡ sharingFrom w uncaught (i - firstTo i counted) (i + r - firstTo i counted)
+    after-letter : completing (next w i b) r ≡ sharingFrom w (uncaught ρ w final t) (suc (suc i) - suc (suc (firstTo i counted))) (suc (i + suc r) - suc (suc (firstTo i counted)))
     after-letter = go (ltb (firstTo i tied) i) refl (exists w t (i + suc r) (suc (suc (firstTo i tied)))) refl
       where
         state-is : next w i b ≡ i - firstTo i tied
-        state-is = next-tied ρ one w hw final t i b h off
+        state-is = omega (arith, next-tied ρ one w hw final t i b h off)
 
         within : firstTo i tied ≤ i
         within = firstTo-le i tied
 
-        same-start : firstTo i counted ≡ firstTo i tied → completing (next w i b) r ≡ sharingFrom w uncaught (i - firstTo i counted) (i + r - firstTo i counted)
+        same-start : firstTo i counted ≡ firstTo i tied → completing (next w i b) r ≡ sharingFrom w (uncaught ρ w final t) (suc (suc i) - suc (suc (firstTo i counted))) (suc (i + suc r) - suc (suc (firstTo i counted)))
         same-start e =
-            let u : next w i b ≡ i - firstTo i counted = omega (arith, state-is, e) in
-            let v : next w i b + r ≡ i + r - firstTo i counted = omega (arith, state-is, e, within) in
-            sym to-next ∙ ap₂ (sharingFrom w uncaught) u v
+            let u : next w i b ≡ suc (suc i) - suc (suc (firstTo i counted)) = omega (arith, state-is, e) in
+            let v : next w i b + r ≡ suc (i + suc r) - suc (suc (firstTo i counted)) = omega (arith, state-is, e, within) in
+            sym to-next ∙ ap₂ (sharingFrom w (uncaught ρ w final t)) u v
 
         no-start : firstTo i counted ≡ i → next w i b + r + length t < length w
-            → completing (next w i b) r ≡ sharingFrom w uncaught (i - firstTo i counted) (i + r - firstTo i counted)
+            → completing (next w i b) r ≡ sharingFrom w (uncaught ρ w final t) (suc (suc i) - suc (suc (firstTo i counted))) (suc (i + suc r) - suc (suc (firstTo i counted)))
         no-start e k =
-            let u : zero ≡ i - firstTo i counted = omega arith in
-            let v : zero + r ≡ i + r - firstTo i counted = omega arith in
+            let u : zero ≡ suc (suc i) - suc (suc (firstTo i counted)) = omega arith in
+            let v : zero + r ≡ suc (i + suc r) - suc (suc (firstTo i counted)) = omega arith in
             ways-free ρ w final t r (next w i b) k ∙ sym (ways-free ρ w final t r zero (omega arith))
-            ∙ sym (shared-complete zero r (omega arith) refl) ∙ ap₂ (sharingFrom w uncaught) u v
+            ∙ sym (shared-complete zero r (omega arith) refl) ∙ ap₂ (sharingFrom w (uncaught ρ w final t)) u v
 
         go : (d : Bool) → ltb (firstTo i tied) i ≡ d → (x : Bool) → exists w t (i + suc r) (suc (suc (firstTo i tied))) ≡ x
-            → completing (next w i b) r ≡ sharingFrom w uncaught (i - firstTo i counted) (i + r - firstTo i counted)
+            → completing (next w i b) r ≡ sharingFrom w (uncaught ρ w final t) (suc (suc i) - suc (suc (firstTo i counted))) (suc (i + suc r) - suc (suc (firstTo i counted)))
         go false p x q =
             let e : firstTo i tied ≡ i = omega (arith, ltb-false (firstTo i tied) i p, within) in
             same-start (firstTo-none i counted (λ l k. untied l (firstTo-before i tied l (omega (arith, e)))) ∙ sym e)
@@ -502,39 +489,37 @@ module _ (ρ : Ranking) (one : OneToOne ρ) (w : Word) (hw : Letters w) (final :
 
   -- the rule of document 01 for words that share exactly i letters with w
   pub sharing-rule : (i r : ℕ) → i ≤ length w → (matches w (length w) (first w i) && final) ≡ false → length w ≤ i + suc (r + length t)
-      → sharing w uncaught i (i + suc r) ≡ byPrefix ρ w (exists w t (i + suc r)) (sharingFrom w uncaught) i (i + suc r)
+      → sharing w (uncaught ρ w final t) i (i + suc r) ≡ byPrefix ρ w (exists w t (i + suc r)) (sharingFrom w (uncaught ρ w final t)) i (i + suc r)
   sharing-rule i r h off long =
       prefix-rule w hw (fineAt w (belowHit ρ w) final t) (doneAt w (belowHit ρ w) final t) i r h
-      ∙ ap (λ (x : Bool). cond x (total (map (λ b. cond (not (goesOn w i b) && fineAt w (belowHit ρ w) final t i r b) (completing (next w i b) r) 0) letters)) 0)
-      (through-fine w (belowHit ρ w) final t i (suc r) h)
-      ∙ go (allFine w (belowHit ρ w) final t (first w i) (suc r)) refl
+      ∙ ap (λ (x : Bool). cond x (total (map (λ b. cond (allowed b) (completing (next w i b) r) 0) letters)) 0) unbannedFine
+      ∙ go (banned ρ w counts i) refl
     where
-      ok : ℕ → Bool
-      ok b = fineAt w (belowHit ρ w) final t i r b
+      counts : ℕ → Bool
+      counts = exists w t (i + suc r)
 
-      first-is : (b : ℕ) → ℕ
-      first-is b = firstTo i (λ q. exists w t (i + suc r) (suc (suc q)) && isEqual (R ρ w i (suc (suc q))) && isLetter ρ w (i - q) b)
+      allowed : ℕ → Bool
+      allowed b = not (goesOn w i b) && fineAt w (belowHit ρ w) final t i r b
 
-      letter : allFine w (belowHit ρ w) final t (first w i) (suc r) ≡ true → (b : ℕ) (x : Bool) → (not (goesOn w i b) && ok b) ≡ x
-          → cond x (completing (next w i b) r) 0 ≡ cond x (sharingFrom w uncaught (suc (suc i) - suc (suc (first-is b))) (suc (i + suc r) - suc (suc (first-is b)))) 0
-      letter kept b true e =
-          let u : i - first-is b ≡ suc (suc i) - suc (suc (first-is b)) = omega arith in
-          let v : i + r - first-is b ≡ suc (i + suc r) - suc (suc (first-is b)) = omega arith in
-          after-letter i r b h (not-true (goesOn w i b) (and-l (not (goesOn w i b)) (ok b) e)) (and-r (not (goesOn w i b)) (ok b) e) kept
-          ∙ ap₂ (sharingFrom w uncaught) u v
-      letter kept b false e = refl
+      behind : ℕ → ℕ
+      behind b = sharingFrom w (uncaught ρ w final t) (suc (suc i) - T ρ w counts i b) (suc (i + suc r) - T ρ w counts i b)
 
-      go : (x : Bool) → allFine w (belowHit ρ w) final t (first w i) (suc r) ≡ x
-          → cond x (total (map (λ b. cond (not (goesOn w i b) && fineAt w (belowHit ρ w) final t i r b) (completing (next w i b) r) 0) letters)) 0
-          ≡ byPrefix ρ w (exists w t (i + suc r)) (sharingFrom w uncaught) i (i + suc r)
-      go true e =
-          total-letters _ _ (λ b hb. letter e b (not (goesOn w i b) && ok b) refl
-          ∙ ap (λ (x : Bool). cond x (sharingFrom w uncaught (suc (suc i) - suc (suc (first-is b))) (suc (i + suc r) - suc (suc (first-is b)))) 0)
-          (fine-restrained ρ one w hw final t i r b h hb off long))
-          ∙ ap (λ (x : Bool). cond x 0 (total (map (λ b. cond (restrained ρ w (exists w t (i + suc r)) i b)
-          (sharingFrom w uncaught (suc (suc i) - T ρ w (exists w t (i + suc r)) i b) (suc (i + suc r) - T ρ w (exists w t (i + suc r)) i b)) 0) letters)))
-          (sym (not-true (banned ρ w (exists w t (i + suc r)) i) (sym (fine-banned ρ one w hw final t i (suc r) h (omega arith)) ∙ e)))
+      fineIs : allFine w (belowHit ρ w) final t (first w i) (suc r) ≡ not (banned ρ w counts i)
+      fineIs = fine-banned ρ one w hw final t i (suc r) h (omega arith)
+
+      unbannedFine : through (next w) (fineAt w (belowHit ρ w) final t) zero (take i w) (suc r) ≡ not (banned ρ w counts i)
+      unbannedFine = through-fine w (belowHit ρ w) final t i (suc r) h ∙ fineIs
+
+      letter : banned ρ w counts i ≡ false → (b : ℕ) (x : Bool) → allowed b ≡ x → cond x (completing (next w i b) r) 0 ≡ cond x (behind b) 0
+      letter free b true e =
+          after-letter i r b h (not-true (goesOn w i b) (and-l (not (goesOn w i b)) (fineAt w (belowHit ρ w) final t i r b) e))
+          (and-r (not (goesOn w i b)) (fineAt w (belowHit ρ w) final t i r b) e) (fineIs ∙ ap not free)
+      letter free b false e = refl
+
+      go : (x : Bool) → banned ρ w counts i ≡ x
+          → cond (not x) (total (map (λ b. cond (allowed b) (completing (next w i b) r) 0) letters)) 0
+          ≡ cond x 0 (total (map (λ b. cond (restrained ρ w counts i b) (behind b) 0) letters))
+      go true e = refl
       go false e =
-          ap (λ (x : Bool). cond x 0 (total (map (λ b. cond (restrained ρ w (exists w t (i + suc r)) i b)
-          (sharingFrom w uncaught (suc (suc i) - T ρ w (exists w t (i + suc r)) i b) (suc (i + suc r) - T ρ w (exists w t (i + suc r)) i b)) 0) letters)))
-          (sym (not-false (banned ρ w (exists w t (i + suc r)) i) (sym (fine-banned ρ one w hw final t i (suc r) h (omega arith)) ∙ e)))
+          total-letters _ _
+          (λ b hb. letter e b (allowed b) refl ∙ ap (λ (x : Bool). cond x (behind b) 0) (fine-restrained ρ one w hw final t i r b h hb off long))

@@ -3,13 +3,14 @@
 use Prim.Native.Nat.{ℕ, zero, suc, _+_, _-_, _≤_, _<_}
 use mathlib.Core.List.{List, [], _∷_, map}
 use mathlib.Core.Path.{_≡_, refl, sym, ap, _∙_}
-use native.Mathlib.Nat.{le-of-suc-le-suc, not-suc-le-zero}
+use native.Mathlib.Nat.{add-zero, add-suc, le-refl, le-trans, le-of-suc-le-suc, not-suc-le-zero}
 use native.Mathlib.Omega.{arith}
 use lib.ListN.{length, getD, take, drop, length-take, length-drop, length-map}
 use lib.Seq.{drop-drop, ext-getD, getD-drop, getD-take}
 use Rattle.definitions.specs.Words.{Word}
 use Rattle.definitions.specs.Vigemins.{Form, value, windows, vigeminAt, vigemin, positions, scan}
-use Rattle.laws.specs.Minima.{at-map, stretch-take, length-stretch, length-windows, window-at, vigemin-inside, vigemin-word, vigemin-least, vigemin-leftmost}
+use Rattle.laws.specs.Filters.{at-map}
+use Rattle.laws.specs.Minima.{stretch-take, length-stretch, length-windows, window-at, vigemin-inside, vigemin-word, vigemin-least, vigemin-leftmost}
 
 -- m letters from place i of the k letters from place p on are those from place p + i on
 pub stretch-stretch : (i m p k : ℕ) (s : Word) → i + m ≤ k → take m (drop i (take k (drop p s))) ≡ take m (drop (p + i) s)
@@ -63,7 +64,7 @@ module _ (f : Form) (k m : ℕ) (s : Word) where
     pub scan-leftmost : (q : ℕ) → p ≤ q → q < getD (scan f k m s) p 0 → value f (take m (drop (getD (scan f k m s) p 0) s)) < value f (take m (drop q s))
     scan-leftmost q a b =
         let c : q < p + vigeminAt f m (take k (drop p s)) = rw (scan-at p h) at b in
-        rw (scan-word, ← in-window q a (omega (arith, inside))) (vigemin-leftmost f m (take k (drop p s)) (q - p) fits (omega arith))
+        rw (scan-word, ← in-window q a (omega (arith, inside))) (vigemin-leftmost f m (take k (drop p s)) (q - p) (omega arith))
 
   -- positions never go back
   pub scan-forward : (p : ℕ) → m ≤ k → suc p + k ≤ length s → getD (scan f k m s) p 0 ≤ getD (scan f k m s) (suc p) 0
@@ -81,6 +82,11 @@ module _ (f : Form) (k m : ℕ) (s : Word) where
           let i = scan-inside p mk fits in
           let j = scan-inside (suc p) mk h in
           omega (arith, scan-leftmost p mk fits next (omega arith) b, scan-least (suc p) mk h now (omega arith) (omega arith))
+
+  -- nor over more windows
+  pub scan-onward : (p d : ℕ) → m ≤ k → p + d + k ≤ length s → getD (scan f k m s) p 0 ≤ getD (scan f k m s) (p + d) 0
+  scan-onward p zero mk h = rw add-zero (le-refl (getD (scan f k m s) p 0))
+  scan-onward p (suc d) mk h = rw add-suc (le-trans (scan-onward p d mk (omega arith)) (scan-forward (p + d) mk (omega arith)))
 
 -- the scan of n letters from place p on is that stretch of the whole scan, counted from there
 pub scan-part : (f : Form) (k m : ℕ) (s : Word) (p n : ℕ) → p + n ≤ length s

@@ -4,7 +4,7 @@ use Prim.Native.Nat.{ℕ, zero, suc, _+_, _-_, _*_, _≤_, _<_}
 use mathlib.Core.Bool.{Bool, true, false, not, _&&_, _||_, and-true, and-false, or-false, and-assoc, and-comm, true≢false}
 use mathlib.Core.List.{List, [], _∷_, _++_, List·Memᴰ, List·Memᴰ·head, List·Memᴰ·tail}
 use mathlib.Core.Path.{_≡_, refl, sym, ap, ap₂, _∙_}
-use native.Mathlib.Nat.{add-comm, add-assoc, add-sub-cancel-left}
+use native.Mathlib.Nat.{add-comm, add-assoc}
 use native.Mathlib.Omega.{arith}
 use borrow.Author.Tests.{le-ltb, ne-eqb}
 use lib.ListN.{length, getD, take, drop, drop-of-length-le}
@@ -13,10 +13,9 @@ use Rattle.definitions.specs.Lists.{all, tabulate, total}
 use Rattle.definitions.specs.Words.{Word, Letters, Mer, same}
 use Rattle.definitions.specs.Vigemins.{Form, keyed, value, below, above, windows, vigemin}
 use Rattle.definitions.specs.Shelves.{size, antemer, postmer, begins, antemers, postmers}
-use Rattle.laws.specs.Tests.{and-l, and-cong, contrary, same-eq, same-refl}
+use Rattle.laws.specs.Tests.{and-l, and-cong, contrary, same-eq, eq-same}
 use Rattle.laws.specs.Filters.{any}
-use Rattle.laws.specs.Orders.{Ranking, OneToOne, ranked, keyed-law, value-one}
-use Rattle.laws.specs.Acceptors.{above-not}
+use Rattle.laws.specs.Orders.{Ranking, OneToOne, ranked, keyed-law, value-one, above-neither}
 use Rattle.laws.specs.Minima.{length-windows, window-at, windows-drop, windows-take, windows-mer, vigemin-is}
 use Rattle.laws.specs.Counting.{count, count-cong, count-none, count-either, count-product}
 
@@ -130,8 +129,8 @@ module _ (f : Form) (w : Word) where
         go : (t : Bool) → same v w ≡ t → not (below f w v) ≡ (t || above f w v)
         go true e = ap not (le-ltb (value f v) (value f w) (omega (arith, equal e)))
         go false e =
-            sym (above-not (value f v) (value f w) ∙ ap (λ (t : Bool). not (below f w v || t))
-            (ne-eqb (value f v) (value f w) (λ q. contrary (same v w) (rw (apart v h q) (same-refl w)) e)) ∙ ap not (or-false (below f w v)))
+            sym (above-neither (value f v) (value f w) ∙ ap (λ (t : Bool). not t && not (below f w v))
+            (ne-eqb (value f v) (value f w) (λ q. contrary (same v w) (eq-same (apart v h q)) e)))
 
     -- the shelf of w holds the words in which w stands and that have no m-mer below w
     size-from : (k : ℕ) → size f k w ≡ count (standsFrom zero) k
@@ -171,16 +170,9 @@ module _ (ρ : Ranking) (one : OneToOne ρ) (w : Word) (hw : Letters w) (pos : 0
       apart : (v : Word) → Mer (length w) v → value (ranked ρ) v ≡ value (ranked ρ) w → v ≡ w
       apart v i = value-one ρ one v w (i .1) hw (i .0)
 
-  -- the size of a shelf of words of m + n letters is the sum, over the ways to cut n letters in two, of antemers times postmers
-  pub size-products : (n : ℕ)
-      → size (ranked ρ) (length w + n) w ≡ total (tabulate (λ a. antemers (ranked ρ) w (n - a) * postmers (ranked ρ) w a) (suc n))
-  size-products n =
-      size-sum (length w + n) (omega arith)
-      ∙ ap (λ (d : ℕ). total (tabulate (λ a. antemers (ranked ρ) w (d - a) * postmers (ranked ρ) w a) (suc d))) (add-sub-cancel-left (length w) n)
-
 -- the size of a shelf under a key is the sum, over the ways to cut k − m letters in two, of antemers times postmers
 pub keyed-size-sum : (key w : Word) → Letters key → Letters w → 0 < length w → (k : ℕ) → length w ≤ k
     → size (keyed key) k w ≡ total (tabulate (λ a. antemers (keyed key) w (k - length w - a) * postmers (keyed key) w a) (suc (k - length w)))
 keyed-size-sum key w hk hw pos k h =
-    keyed-law (λ f. size f k w ≡ total (tabulate (λ a. antemers f w (k - length w - a) * postmers f w a) (suc (k - length w))))
+    keyed-law (λ ρ f. size f k w ≡ total (tabulate (λ a. antemers f w (k - length w - a) * postmers f w a) (suc (k - length w))))
     (λ ρ one. size-sum ρ one w hw pos k h) key hk

@@ -11,11 +11,7 @@ use lib.Dec.{eqb, leb}
 use lib.ListN.{length, getD}
 use borrow.Author.Tests.{leb-true, leb-false, eqb-true, eq-eqb}
 use Rattle.definitions.specs.Words.{Word}
-use Rattle.laws.specs.Tests.{and-l, and-r, and-i, contrary}
-
-and-false : (a b : Bool) → b ≡ false → (a && b) ≡ false
-and-false true b e = e
-and-false false b e = refl
+use Rattle.laws.specs.Tests.{and-l, and-r, and-i, and-none, contrary}
 
 module _ (w : Word) where
   -- whether the latest l letters read are the first l of w
@@ -55,7 +51,12 @@ module _ (w : Word) where
   pub matches-short : (i l : ℕ) → i < l → matches l (first i) ≡ false
   matches-short i zero h = absurd (not-suc-le-zero h)
   matches-short zero (suc l) h = refl
-  matches-short (suc i) (suc l) h = and-false (eqb (getD w i 0) (getD w l 0)) (matches l (first i)) (matches-short i l (le-of-suc-le-suc h))
+  matches-short (suc i) (suc l) h = and-none (eqb (getD w i 0) (getD w l 0)) (matches l (first i)) (matches-short i l (le-of-suc-le-suc h))
+
+  -- nor does one letter more match more than i + 1
+  pub matches-long : (i b l : ℕ) → suc i < l → matches l (b ∷ first i) ≡ false
+  matches-long i b zero h = absurd (not-suc-le-zero h)
+  matches-long i b (suc l) h = and-none (eqb b (getD w l 0)) (matches l (first i)) (matches-short i l (le-of-suc-le-suc h))
 
   -- the first i letters of w match all i
   pub matches-all : (i : ℕ) → matches i (first i) ≡ true
@@ -125,29 +126,6 @@ module _ (w : Word) where
       each zero h = refl
       each (suc l) h = ap (λ (t : Bool). eqb b (getD w l 0) && t) (state-matches past l (omega arith))
 
-  -- after the first i letters of w the state is i
-  pub state-first : (i : ℕ) → i ≤ length w → state (first i) ≡ i
-  state-first i h =
-      let low : i ≤ state (first i) = longest-max (length w) (first i) i h (matches-all i) in
-      go (leb (state (first i)) i) refl low
-    where
-      go : (t : Bool) → leb (state (first i)) i ≡ t → i ≤ state (first i) → state (first i) ≡ i
-      go true q low = omega (arith, leb-true (state (first i)) i q)
-      go false q low = absurd (contrary (matches (state (first i)) (first i)) (longest-matches (length w) (first i)) (matches-short i (state (first i)) (leb-false (state (first i)) i q)))
-
-  -- the state is at most one more than before
-  pub next-le : (i b : ℕ) → next i b ≤ suc i
-  next-le i b = go (leb (next i b) (suc i)) refl
-    where
-      long : (n : ℕ) → suc i < n → matches n (b ∷ first i) ≡ false
-      long zero h = absurd (not-suc-le-zero h)
-      long (suc l) h = and-false (eqb b (getD w l 0)) (matches l (first i)) (matches-short i l (le-of-suc-le-suc h))
-
-      go : (t : Bool) → leb (next i b) (suc i) ≡ t → next i b ≤ suc i
-      go true q = leb-true (next i b) (suc i) q
-      go false q =
-          absurd (contrary (matches (next i b) (b ∷ first i)) (longest-matches (length w) (b ∷ first i)) (long (next i b) (leb-false (next i b) (suc i) q)))
-
   -- a match that no longer one exceeds is the longest
   pub longest-is : (n : ℕ) (past : Word) (s : ℕ) → s ≤ n → matches s past ≡ true → ((l : ℕ) → s < l → l ≤ n → matches l past ≡ false) → longest n past ≡ s
   longest-is n past s h e high =
@@ -158,3 +136,16 @@ module _ (w : Word) where
       go true q low = omega (arith, leb-true (longest n past) s q)
       go false q low =
           absurd (contrary (matches (longest n past) past) (longest-matches n past) (high (longest n past) (leb-false (longest n past) s q) (longest-le n past)))
+
+  -- after the first i letters of w the state is i
+  pub state-first : (i : ℕ) → i ≤ length w → state (first i) ≡ i
+  state-first i h = longest-is (length w) (first i) i h (matches-all i) (λ l k j. matches-short i l k)
+
+  -- the state is at most one more than before
+  pub next-le : (i b : ℕ) → next i b ≤ suc i
+  next-le i b = go (leb (next i b) (suc i)) refl
+    where
+      go : (t : Bool) → leb (next i b) (suc i) ≡ t → next i b ≤ suc i
+      go true q = leb-true (next i b) (suc i) q
+      go false q =
+          absurd (contrary (matches (next i b) (b ∷ first i)) (longest-matches (length w) (b ∷ first i)) (matches-long i b (next i b) (leb-false (next i b) (suc i) q)))

@@ -4,7 +4,6 @@
 use Prim.Native.Nat.{ℕ, zero, suc, _+_, _-_, _^_, _≤_, _<_}
 use mathlib.Core.Bool.{Bool, true, false, cond, not, _&&_, _||_, and-true, and-false, or-false, and-assoc, and-comm, or-assoc}
 use mathlib.Core.List.{[], _∷_, _++_, map}
-use mathlib.Core.Logic.{⊎-elim}
 use mathlib.Core.Path.{_≡_, refl, sym, ap, ap₂, fun-ext, _∙_}
 use native.Mathlib.Nat.{zero-add, add-zero, not-suc-le-zero}
 use native.Mathlib.Omega.{arith}
@@ -16,54 +15,50 @@ use Rattle.definitions.specs.Lists.{filter, total}
 use Rattle.definitions.specs.Words.{Word, Letters, letters, words, same}
 use Rattle.definitions.specs.Vigemins.{vigemin}
 use Rattle.definitions.specs.Shelves.{shelf, antemer, postmer, begins, antemers, postmers}
-use Rattle.laws.specs.Tests.{not-or, and-l, and-r, and-i, and-cong, or-l, or-r, or-cases, test-ext, contrary, same-eq}
-use Rattle.laws.specs.Counting.{count, filter-cong, count-cong, count-none, count-first}
-use Rattle.laws.specs.Walks.{accepts, ways, ways-count}
+use Rattle.laws.specs.Tests.{not-or, and-l, and-r, and-i, and-cong, and-none, and-mono, or-mono, test-ext, contrary, same-eq}
+use Rattle.laws.specs.Counting.{count, filter-cong, count-cong, count-fixed, count-first}
+use Rattle.laws.specs.Walks.{accepts, ways, ways-count, count-accepted}
 use Rattle.laws.specs.Orders.{Ranking, OneToOne, ranked, vigemin-exactly}
 use Rattle.laws.specs.States.{matches, first, state, next, longest-matches, longest-max, longest-le, matches-first, matches-short, state-matches, state-step, state-first, next-le}
-use Rattle.laws.specs.Places.{anyTo, anyTo-cong, anyTo-never, anyTo-last, anyTo-find, anyTo-there}
+use Rattle.laws.specs.Places.{anyTo, anyTo-cong, anyTo-none, anyTo-last, anyTo-mono}
 use Rattle.laws.specs.Threads.{caught, oldCaught, newCaught, bad, run, threads-new}
 use Rattle.laws.specs.Acceptors.{belowHit, postmer-threads, antemer-threads, holds-threads}
 
 -- ---- beginnings
 
--- a fixed test beside another
-pub count-fixed : (t : Bool) (p : Word → Bool) (n : ℕ) → count (λ x. t && p x) n ≡ cond t (count p n) 0
-count-fixed true p n = refl
-count-fixed false p n = count-none n
-
-module _ {S : Type 0} (ok : S → ℕ → ℕ → Bool) (step : S → ℕ → S) (end : S → Bool) where
-  -- whether the letters of u are allowed one after the other, with n letters to follow
-  abbrev pub through : S → Word → ℕ → Bool
-  through s [] n = true
-  through s (b ∷ u) n = ok s (length u + n) b && through (step s b) u n
-
+module _ {S : Type 0} (step : S → ℕ → S) where
   -- the state after the letters of u
   abbrev pub after : S → Word → S
   after s [] = s
   after s (b ∷ u) = after (step s b) u
 
+  -- whether the letters of u are allowed one after the other, with n letters to follow
+  abbrev pub through : (S → ℕ → ℕ → Bool) → S → Word → ℕ → Bool
+  through ok s [] n = true
+  through ok s (b ∷ u) n = ok s (length u + n) b && through ok (step s b) u n
+
+module _ {S : Type 0} (ok : S → ℕ → ℕ → Bool) (step : S → ℕ → S) (end : S → Bool) where
   -- a word is accepted where its beginning is allowed and the rest is accepted from the state after it
-  pub accepts-append : (s : S) (u z : Word) → accepts ok step end s (u ++ z) ≡ (through s u (length z) && accepts ok step end (after s u) z)
+  pub accepts-append : (s : S) (u z : Word) → accepts ok step end s (u ++ z) ≡ (through step ok s u (length z) && accepts ok step end (after step s u) z)
   accepts-append s [] z = refl
   accepts-append s (b ∷ u) z =
       ap₂ (λ (n : ℕ) (t : Bool). ok s n b && t) (length-append u z) (accepts-append (step s b) u z)
-      ∙ sym (and-assoc (ok s (length u + length z) b) (through (step s b) u (length z)) (accepts ok step end (after (step s b) u) z))
+      ∙ sym (and-assoc (ok s (length u + length z) b) (through step ok (step s b) u (length z)) (accepts ok step end (after step (step s b) u) z))
 
   -- the accepted words that begin with u and go on by a test: those that follow the state after u, where u itself is allowed
   pub count-begun-by : (d : Word → Bool) (s : S) (u : Word) (n : ℕ) → Letters u
       → count (λ z. same (take (length u) z) u && (accepts ok step end s z && d (drop (length u) z))) (length u + n)
-      ≡ cond (through s u n) (count (λ v. accepts ok step end (after s u) v && d v) n) 0
+      ≡ cond (through step ok s u n) (count (λ v. accepts ok step end (after step s u) v && d v) n) 0
   count-begun-by d s u n h =
       count-cong _ (λ z. same (take (length u) z) u && rest (drop (length u) z)) (length u + n) (λ z k. and-cong (same (take (length u) z) u) _ _ (begun z))
       ∙ count-first u rest n h
-      ∙ count-cong rest (λ v. through s u n && (accepts ok step end (after s u) v && d v)) n
-      (λ v k. and-assoc (through s u (length v)) (accepts ok step end (after s u) v) (d v)
-      ∙ ap (λ (i : ℕ). through s u i && (accepts ok step end (after s u) v && d v)) (k .0))
-      ∙ count-fixed (through s u n) (λ v. accepts ok step end (after s u) v && d v) n
+      ∙ count-cong rest (λ v. through step ok s u n && (accepts ok step end (after step s u) v && d v)) n
+      (λ v k. and-assoc (through step ok s u (length v)) (accepts ok step end (after step s u) v) (d v)
+      ∙ ap (λ (i : ℕ). through step ok s u i && (accepts ok step end (after step s u) v && d v)) (k .0))
+      ∙ count-fixed (through step ok s u n) (λ v. accepts ok step end (after step s u) v && d v) n
     where
       rest : Word → Bool
-      rest v = through s u (length v) && accepts ok step end (after s u) v && d v
+      rest v = through step ok s u (length v) && accepts ok step end (after step s u) v && d v
 
       begun : (z : Word) → same (take (length u) z) u ≡ true → (accepts ok step end s z && d (drop (length u) z)) ≡ rest (drop (length u) z)
       begun z e =
@@ -73,36 +68,36 @@ module _ {S : Type 0} (ok : S → ℕ → ℕ → Bool) (step : S → ℕ → S)
 
   -- the accepted words that begin with u are counted by the table from the state after u, where u itself is allowed
   pub count-begun : (s : S) (u : Word) (n : ℕ) → Letters u
-      → count (λ z. same (take (length u) z) u && accepts ok step end s z) (length u + n) ≡ cond (through s u n) (ways ok step end (after s u) n) 0
+      → count (λ z. same (take (length u) z) u && accepts ok step end s z) (length u + n) ≡ cond (through step ok s u n) (ways ok step end (after step s u) n) 0
   count-begun s u n h =
       count-cong _ _ (length u + n) (λ z k. ap (λ (t : Bool). same (take (length u) z) u && t) (sym (and-true (accepts ok step end s z))))
       ∙ count-begun-by (λ v. true) s u n h
-      ∙ ap (λ (c : ℕ). cond (through s u n) c 0)
-      (count-cong _ (accepts ok step end (after s u)) n (λ v k. and-true (accepts ok step end (after s u) v)) ∙ sym (ways-count ok step end (after s u) n))
+      ∙ ap (λ (c : ℕ). cond (through step ok s u n) c 0)
+      (count-cong _ (accepts ok step end (after step s u)) n (λ v k. and-true (accepts ok step end (after step s u) v)) ∙ sym (ways-count ok step end (after step s u) n))
 
   -- one letter more is allowed from the state after the others
-  pub through-last : (s : S) (u : Word) (b n : ℕ) → through s (u ++ (b ∷ [])) n ≡ (through s u (suc n) && ok (after s u) n b)
+  pub through-last : (s : S) (u : Word) (b n : ℕ) → through step ok s (u ++ (b ∷ [])) n ≡ (through step ok s u (suc n) && ok (after step s u) n b)
   through-last s [] b n = and-true (ok s (zero + n) b) ∙ ap (λ (i : ℕ). ok s i b) (zero-add n)
   through-last s (a ∷ u) b n =
       ap₂ (λ (i : ℕ) (t : Bool). ok s i a && t) (let e : length (u ++ (b ∷ [])) ≡ length u + 1 = length-append u (b ∷ []) in omega arith) (through-last (step s a) u b n)
-      ∙ sym (and-assoc (ok s (length u + suc n) a) (through (step s a) u (suc n)) (ok (after (step s a) u) n b))
+      ∙ sym (and-assoc (ok s (length u + suc n) a) (through step ok (step s a) u (suc n)) (ok (after step (step s a) u) n b))
 
 -- w's own letter leads from a state to the next one
 pub next-first : (w : Word) (i : ℕ) → i < length w → next w i (getD w i 0) ≡ suc i
 next-first w i h = state-first w (suc i) h
 
 -- j letters of w from state i on lead to state i + j
-pub after-first : (w : Word) (ok : ℕ → ℕ → ℕ → Bool) (end : ℕ → Bool) (i j : ℕ) → i + j ≤ length w → after ok (next w) end i (take j (drop i w)) ≡ i + j
-after-first w ok end i zero h = sym (add-zero i)
-after-first w ok end i (suc j) h =
-    ap (λ (u : Word). after ok (next w) end i (take (suc j) u)) (drop-cons w i 0 (omega arith))
-    ∙ ap (λ (s : ℕ). after ok (next w) end s (take j (drop (suc i) w))) (next-first w i (omega arith))
-    ∙ after-first w ok end (suc i) j (omega arith)
+pub after-first : (w : Word) (i j : ℕ) → i + j ≤ length w → after (next w) i (take j (drop i w)) ≡ i + j
+after-first w i zero h = sym (add-zero i)
+after-first w i (suc j) h =
+    ap (λ (u : Word). after (next w) i (take (suc j) u)) (drop-cons w i 0 (omega arith))
+    ∙ ap (λ (s : ℕ). after (next w) s (take j (drop (suc i) w))) (next-first w i (omega arith))
+    ∙ after-first w (suc i) j (omega arith)
     ∙ (omega arith)
 
 -- the first i letters of w lead from state 0 to state i
-pub after-prefix : (w : Word) (ok : ℕ → ℕ → ℕ → Bool) (end : ℕ → Bool) (i : ℕ) → i ≤ length w → after ok (next w) end zero (take i w) ≡ i
-after-prefix w ok end i h = after-first w ok end zero i (omega arith) ∙ zero-add i
+pub after-prefix : (w : Word) (i : ℕ) → i ≤ length w → after (next w) zero (take i w) ≡ i
+after-prefix w i h = after-first w zero i (omega arith) ∙ zero-add i
 
 -- ---- threads by states
 
@@ -161,17 +156,11 @@ module _ (w : Word) (hit : ℕ → ℕ → ℕ → Bool) (final : Bool) (t : Wor
           at false q = absurd (contrary (matches w l (first w s)) k (matches-short w s l (leb-false l s q)))
 
       still : bad w hit final (first w s) (suc (n + length t)) b ≡ true → bad w hit final past (suc (n + length t)) b ≡ true
-      still k =
-          ⊎-elim
-          (λ a. or-l (matches w (length w) past && final) (anyTo (length w) (λ l. matches w l past && hit l b (suc (n + length t))))
-          (and-i (matches w (length w) past) final (up (length w) (and-l (matches w (length w) (first w s)) final a)) (and-r (matches w (length w) (first w s)) final a)))
-          (λ a. let r = anyTo-find (length w) (λ l. matches w l (first w s) && hit l b (suc (n + length t))) a in
-          or-r (matches w (length w) past && final) (anyTo (length w) (λ l. matches w l past && hit l b (suc (n + length t))))
-          (anyTo-there (length w) (λ l. matches w l past && hit l b (suc (n + length t))) (r .0) (r .1)
-          (and-i (matches w (r .0) past) (hit (r .0) b (suc (n + length t)))
-          (up (r .0) (and-l (matches w (r .0) (first w s)) (hit (r .0) b (suc (n + length t))) (r .2)))
-          (and-r (matches w (r .0) (first w s)) (hit (r .0) b (suc (n + length t))) (r .2)))))
-          (or-cases (matches w (length w) (first w s) && final) (anyTo (length w) (λ l. matches w l (first w s) && hit l b (suc (n + length t)))) k)
+      still =
+          or-mono (matches w (length w) (first w s) && final) (anyTo (length w) (λ l. matches w l (first w s) && hit l b (suc (n + length t)))) (matches w (length w) past && final)
+          (anyTo (length w) (λ l. matches w l past && hit l b (suc (n + length t))))
+          (and-mono (matches w (length w) (first w s)) (matches w (length w) past) final (up (length w)))
+          (anyTo-mono (length w) _ _ (λ l. and-mono (matches w l (first w s)) (matches w l past) (hit l b (suc (n + length t))) (up l)))
 
       go : (d : Bool) → bad w hit final (first w s) (suc (n + length t)) b ≡ d → not d ≡ true
       go true k = absurd (contrary (fine past n b) f (ap not (still k)))
@@ -189,12 +178,12 @@ module _ (w : Word) (hit : ℕ → ℕ → ℕ → Bool) (final : Bool) (t : Wor
       (allFine-match s past (suc n) k (and-r (fine past n b) (allFine past (suc n)) f))
 
   -- the first i letters of w are allowed one after the other exactly if each was fine
-  pub through-fine : (i n : ℕ) → i ≤ length w → through fineAt (next w) doneAt zero (take i w) n ≡ allFine (first w i) n
+  pub through-fine : (i n : ℕ) → i ≤ length w → through (next w) fineAt zero (take i w) n ≡ allFine (first w i) n
   through-fine zero n h = refl
   through-fine (suc i) n h =
-      ap (λ (u : Word). through fineAt (next w) doneAt zero u n) (take-suc w i 0 h)
+      ap (λ (u : Word). through (next w) fineAt zero u n) (take-suc w i 0 h)
       ∙ through-last fineAt (next w) doneAt zero (take i w) (getD w i 0) n
-      ∙ ap₂ (λ (x : Bool) (s : ℕ). x && fineAt s n (getD w i 0)) (through-fine i (suc n) (omega arith)) (after-prefix w fineAt doneAt i (omega arith))
+      ∙ ap₂ (λ (x : Bool) (s : ℕ). x && fineAt s n (getD w i 0)) (through-fine i (suc n) (omega arith)) (after-prefix w i (omega arith))
       ∙ and-comm (allFine (first w i) (suc n)) (fine (first w i) n (getD w i 0))
 
 -- ---- where no m-mer can exist any more
@@ -213,24 +202,22 @@ module _ (ρ : Ranking) (w : Word) (final : Bool) (t : Word) where
   matched-none s p l h = go (leb l s) refl
     where
       go : (d : Bool) → leb l s ≡ d → (matches w l (first w s) && p l) ≡ false
-      go true q = ap (λ (x : Bool). matches w l (first w s) && x) (h (leb-true l s q)) ∙ and-false (matches w l (first w s))
+      go true q = and-none (matches w l (first w s)) (p l) (h (leb-true l s q))
       go false q = ap (λ (x : Bool). x && p l) (matches-short w s l (leb-false l s q))
 
   fine-free : (s n b : ℕ) → s + suc (n + length t) < length w → fineAt w (belowHit ρ w) final t s n b ≡ true
   fine-free s n b h =
       ap₂ (λ (x y : Bool). not (x && final || y)) (matches-short w s (length w) (omega arith))
-      (anyTo-cong (length w)
+      (anyTo-none (length w)
       (λ l k. matched-none s (λ i. belowHit ρ w i b (suc (n + length t))) l
-      (λ q. ap (λ (x : Bool). x && ltb (ρ l b) (ρ l (getD w l 0))) (lt-leb (length w) (l + suc (n + length t)) (omega arith))))
-      ∙ anyTo-never (length w))
+      (λ q. ap (λ (x : Bool). x && ltb (ρ l b) (ρ l (getD w l 0))) (lt-leb (length w) (l + suc (n + length t)) (omega arith)))))
 
   done-free : (s : ℕ) → s + length t < length w → doneAt w (belowHit ρ w) final t s ≡ true
   done-free s h =
       ap not
-      (anyTo-cong (length w)
+      (anyTo-none (length w)
       (λ l k. matched-none s (λ i. caught w (belowHit ρ w) final i (drop i w) t) (suc l)
-      (λ q. caught-never (suc l) (drop (suc l) w) t (omega arith) (let e : length (drop (suc l) w) ≡ length w - suc l = length-drop (suc l) w in omega arith)))
-      ∙ anyTo-never (length w))
+      (λ q. caught-never (suc l) (drop (suc l) w) t (omega arith) (let e : length (drop (suc l) w) ≡ length w - suc l = length-drop (suc l) w in omega arith))))
 
   -- where no m-mer can exist any more, all words complete a state: a power of four
   pub ways-free : (n s : ℕ) → s + n + length t < length w
@@ -271,7 +258,7 @@ module _ (ρ : Ranking) (w : Word) where
 
   -- whether w itself is allowed from the start, with a letters to follow
   abbrev pub wordAllowed : ℕ → Bool
-  wordAllowed a = through postmerOk (next w) postmerEnd zero w a
+  wordAllowed a = through (next w) postmerOk zero w a
 
   -- the words of a shelf: beside the state, whether w was met before
   abbrev pub shelfOk : Bool × ℕ → ℕ → ℕ → Bool
@@ -300,8 +287,11 @@ module _ (ρ : Ranking) (one : OneToOne ρ) (w : Word) (hw : Letters w) where
 
   -- the antemers are counted by the table
   pub antemers-table : (a : ℕ) → antemers (ranked ρ) w a ≡ antemerWays ρ w zero a
-  antemers-table a =
-      count-cong (antemer (ranked ρ) w) (accepts (antemerOk ρ w) (next w) (antemerEnd ρ w) zero) a (λ y h. antemer-accepted y (h .1)) ∙ sym (ways-count (antemerOk ρ w) (next w) (antemerEnd ρ w) zero a)
+  antemers-table a = count-accepted (antemerOk ρ w) (next w) (antemerEnd ρ w) (antemer (ranked ρ) w) zero a antemer-accepted
+
+  -- all postmers of length n are counted by the table
+  pub postmers-all-table : 0 < length w → (n : ℕ) → count (postmer (ranked ρ) w) n ≡ postmerWays ρ w zero n
+  postmers-all-table m n = count-accepted (postmerOk ρ w) (next w) (postmerEnd ρ w) (postmer (ranked ρ) w) zero n (λ z h. postmer-accepted z m h)
 
   -- the postmers that begin with w are counted by the table from state m, where w itself is allowed
   pub postmers-table : 0 < length w → (a : ℕ) → postmers (ranked ρ) w a ≡ cond (wordAllowed ρ w a) (postmerWays ρ w (length w) a) 0
@@ -309,7 +299,7 @@ module _ (ρ : Ranking) (one : OneToOne ρ) (w : Word) (hw : Letters w) where
       count-cong (λ z. begins w z && postmer (ranked ρ) w z) _ (length w + a) (λ z h. ap (λ (t : Bool). begins w z && t) (postmer-accepted z m (h .1)))
       ∙ count-begun (postmerOk ρ w) (next w) (postmerEnd ρ w) zero w a hw
       ∙ ap (λ (i : ℕ). cond (wordAllowed ρ w a) (postmerWays ρ w i a) 0)
-      (ap (after (postmerOk ρ w) (next w) (postmerEnd ρ w) zero) (sym (take-length w)) ∙ after-prefix w (postmerOk ρ w) (postmerEnd ρ w) (length w) (omega arith))
+      (ap (after (next w) zero) (sym (take-length w)) ∙ after-prefix w (length w) (omega arith))
 
 -- ---- the words of a shelf
 
@@ -325,7 +315,7 @@ old-none w hit final past h = go (length w) refl h
     go (suc n) e k =
         anyTo-last n at
         ∙ ap₂ (λ (x y : Bool). x || y)
-        (anyTo-cong n (λ l j. ap (λ (u : Word). matches w (suc l) past && caught w hit final (suc l) u []) (drop-cons w (suc l) 0 (omega arith)) ∙ and-false (matches w (suc l) past)) ∙ anyTo-never n)
+        (anyTo-none n (λ l j. ap (λ (u : Word). matches w (suc l) past && caught w hit final (suc l) u []) (drop-cons w (suc l) 0 (omega arith)) ∙ and-false (matches w (suc l) past)))
         (ap (λ (u : Word). matches w (suc n) past && caught w hit final (suc n) u []) (ap (λ (i : ℕ). drop i w) (sym e) ∙ drop-length w))
 
 -- state m is a match with the whole of w
@@ -342,7 +332,7 @@ none l b r = false
 bad-none : (w past : Word) (r b : ℕ) → bad w none true past r b ≡ matches w (length w) past
 bad-none w past r b =
     ap₂ (λ (x y : Bool). x || y) (and-true (matches w (length w) past))
-    (anyTo-cong (length w) (λ l h. and-false (matches w l past)) ∙ anyTo-never (length w))
+    (anyTo-none (length w) (λ l h. and-false (matches w l past)))
     ∙ or-false (matches w (length w) past)
 
 -- where no letter is left, a postmer is one
@@ -354,8 +344,7 @@ module _ (ρ : Ranking) (w : Word) (m : 0 < length w) where
       → accepts (shelfOk ρ w) (shelfStep ρ w) (shelfEnd ρ w) (h, state w past) y
       ≡ (accepts (postmerOk ρ w) (next w) (postmerEnd ρ w) (state w past) y && (h || run w none true past y []))
   shelf-run h past [] =
-      sym (ap₂ (λ (x y : Bool). x && (h || y))
-      (ap not (old-none w (belowHit ρ w) false (first w (state w past)) m ∙ and-false (matches w (length w) (first w (state w past)))))
+      sym (ap₂ (λ (x y : Bool). x && (h || y)) (postmer-end ρ w m (state w past))
       (old-none w none true past m ∙ and-true (matches w (length w) past) ∙ state-full w past))
   shelf-run h past (b ∷ y) =
       ap (λ (t : Bool). postmerOk ρ w (state w past) (length y) b && t)

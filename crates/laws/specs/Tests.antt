@@ -1,12 +1,12 @@
 -- Tests: what follows from a joined test, and when two words are one.
 -- Assumes nothing.
-use Prim.Native.Nat.{ℕ}
+use Prim.Native.Nat.{ℕ, _≤_}
 use mathlib.Core.Bool.{Bool, true, false, not, _&&_, _||_, true≢false}
 use mathlib.Core.List.{[], _∷_}
 use mathlib.Core.Logic.{_⊎_, inl, inr}
-use mathlib.Core.Path.{_≡_, refl, sym, ap₂, _∙_}
-use borrow.Author.Tests.{eqb-true, eq-eqb}
-use lib.Dec.{eqb}
+use mathlib.Core.Path.{_≡_, refl, sym, ap₂, subst, _∙_}
+use borrow.Author.Tests.{eqb-true, eq-eqb, leb-true, le-leb}
+use lib.Dec.{eqb, leb}
 use Rattle.definitions.specs.Words.{Word, same}
 
 -- ---- and, or
@@ -38,6 +38,26 @@ pub or-cases : (a b : Bool) → (a || b) ≡ true → (a ≡ true) ⊎ (b ≡ tr
 or-cases true b e = inl refl
 or-cases false b e = inr e
 
+-- the first two of three tests change places
+pub and-left-comm : (a b c : Bool) → (a && (b && c)) ≡ (b && (a && c))
+and-left-comm true b c = refl
+and-left-comm false true c = refl
+and-left-comm false false c = refl
+
+-- a joined test fails where its second part does
+pub and-none : (a b : Bool) → b ≡ false → (a && b) ≡ false
+and-none true b e = e
+and-none false b e = refl
+
+-- what each part implies, the whole does
+pub and-mono : (a b c : Bool) → (a ≡ true → b ≡ true) → (a && c) ≡ true → (b && c) ≡ true
+and-mono true b c h e = and-i b c (h refl) e
+and-mono false b c h e = absurd (true≢false (sym e))
+
+pub or-mono : (a b c d : Bool) → (a ≡ true → c ≡ true) → (b ≡ true → d ≡ true) → (a || b) ≡ true → (c || d) ≡ true
+or-mono true b c d f g e = or-l c d (f refl)
+or-mono false b c d f g e = or-r c d (g e)
+
 -- the contrary of a joined test
 pub not-or : (a b : Bool) → not (a || b) ≡ (not a && not b)
 not-or true b = refl
@@ -58,10 +78,9 @@ test-ext true b f g = sym (f refl)
 test-ext false true f g = g refl
 test-ext false false f g = refl
 
--- a test is true or false
-pub decided : (a : Bool) → (a ≡ true) ⊎ (a ≡ false)
-decided true = inl refl
-decided false = inr refl
+-- two comparisons are equal where each implies the other
+pub leb-cong : (a b c d : ℕ) → (a ≤ b → c ≤ d) → (c ≤ d → a ≤ b) → leb a b ≡ leb c d
+leb-cong a b c d f g = test-ext (leb a b) (leb c d) (λ e. le-leb c d (f (leb-true a b e))) (λ e. le-leb a b (g (leb-true c d e)))
 
 -- a test is not both
 pub contrary : (a : Bool) → a ≡ true → a ≡ false → ⊥
@@ -77,7 +96,10 @@ same-eq (a ∷ u) [] e = absurd (true≢false (sym e))
 same-eq (a ∷ u) (b ∷ v) e =
     ap₂ (λ (x : ℕ) (y : Word). x ∷ y) (eqb-true a b (and-l (eqb a b) (same u v) e)) (same-eq u v (and-r (eqb a b) (same u v) e))
 
--- and holds of a word and itself
-pub same-refl : (u : Word) → same u u ≡ true
+same-refl : (u : Word) → same u u ≡ true
 same-refl [] = refl
 same-refl (a ∷ u) = and-i (eqb a a) (same u u) (eq-eqb a a refl) (same-refl u)
+
+-- and holds where they are
+pub eq-same : {u v : Word} → u ≡ v → same u v ≡ true
+eq-same {u} e = subst (λ v. same u v ≡ true) e (same-refl u)

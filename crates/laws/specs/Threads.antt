@@ -4,14 +4,14 @@
 -- the words that hold w are three cases of it.
 -- Assumes nothing.
 use Prim.Native.Nat.{ℕ, zero, suc, _+_, _<_}
-use mathlib.Core.Bool.{Bool, true, false, _&&_, _||_, or-false, or-assoc}
+use mathlib.Core.Bool.{Bool, true, false, _&&_, _||_, or-false, or-assoc, or-comm}
 use mathlib.Core.List.{[], _∷_, _++_}
 use mathlib.Core.Path.{_≡_, refl, sym, ap, ap₂, _∙_}
 use lib.Dec.{eqb}
 use lib.ListN.{length, getD, drop, length-append}
 use lib.Seq.{drop-cons, drop-length}
 use Rattle.definitions.specs.Words.{Word}
-use Rattle.laws.specs.Places.{anyTo, anyTo-cong, anyTo-never, anyTo-last, anyTo-or}
+use Rattle.laws.specs.Places.{anyTo, anyTo-cong, anyTo-none, anyTo-last, anyTo-or}
 use Rattle.laws.specs.States.{matches}
 
 -- ---- threads
@@ -58,7 +58,8 @@ module _ (w : Word) (hit : ℕ → ℕ → ℕ → Bool) (final : Bool) where
       anyTo-last (length w) (tied past b z)
       ∙ ap₂ (λ (s t : Bool). s || t) (anyTo-cong (length w) each ∙ anyTo-or (length w) (λ l. matches w l past && hit l b (suc (length z)))
       (λ l. matches w (suc l) (b ∷ past) && caught (suc l) (drop (suc l) w) z)) at-end
-      ∙ turn (anyTo (length w) (λ l. matches w l past && hit l b (suc (length z)))) (oldCaught (b ∷ past) z) (matches w (length w) past && final)
+      ∙ or-comm (anyTo (length w) (λ l. matches w l past && hit l b (suc (length z))) || oldCaught (b ∷ past) z) (matches w (length w) past && final)
+      ∙ sym (or-assoc (matches w (length w) past && final) (anyTo (length w) (λ l. matches w l past && hit l b (suc (length z)))) (oldCaught (b ∷ past) z))
     where
       each : (l : ℕ) → l < length w → tied past b z l
           ≡ ((matches w l past && hit l b (suc (length z))) || (matches w (suc l) (b ∷ past) && caught (suc l) (drop (suc l) w) z))
@@ -69,31 +70,15 @@ module _ (w : Word) (hit : ℕ → ℕ → ℕ → Bool) (final : Bool) where
       at-end : tied past b z (length w) ≡ (matches w (length w) past && final)
       at-end = ap (λ (u : Word). matches w (length w) past && caught (length w) u (b ∷ z)) (drop-length w)
 
-      turn : (h o f : Bool) → (h || o || f) ≡ ((f || h) || o)
-      turn true true true = refl
-      turn true true false = refl
-      turn true false true = refl
-      turn true false false = refl
-      turn false true true = refl
-      turn false true false = refl
-      turn false false true = refl
-      turn false false false = refl
-
-  regroup : (o c n : Bool) → (o || (c || n)) ≡ ((c || o) || n)
-  regroup true true n = refl
-  regroup true false n = refl
-  regroup false true n = refl
-  regroup false false n = refl
-
   -- what each thread by itself is caught by, all threads at once catch
   pub threads : (past y t : Word) → (oldCaught past (y ++ t) || newCaught y t) ≡ run past y t
   threads past [] t = or-false (oldCaught past t)
   threads past (b ∷ y) t =
-      regroup (oldCaught past (b ∷ (y ++ t))) (caught zero w (b ∷ (y ++ t))) (newCaught y t)
-      ∙ ap (λ (s : Bool). s || newCaught y t) (tied-letter past b (y ++ t))
+      sym (or-assoc (oldCaught past (b ∷ (y ++ t))) (caught zero w (b ∷ (y ++ t))) (newCaught y t))
+      ∙ ap (λ (s : Bool). s || newCaught y t) (or-comm (oldCaught past (b ∷ (y ++ t))) (caught zero w (b ∷ (y ++ t))) ∙ tied-letter past b (y ++ t))
       ∙ or-assoc (bad past (suc (length (y ++ t))) b) (oldCaught (b ∷ past) (y ++ t)) (newCaught y t)
       ∙ ap₂ (λ (n : ℕ) (s : Bool). bad past (suc n) b || s) (length-append y t) (threads (b ∷ past) y t)
 
   -- nothing is tied before the first letter
   pub threads-new : (y t : Word) → newCaught y t ≡ run [] y t
-  threads-new y t = ap (λ (s : Bool). s || newCaught y t) (sym (anyTo-never (length w))) ∙ threads [] y t
+  threads-new y t = ap (λ (s : Bool). s || newCaught y t) (sym (anyTo-none (length w) (λ l h. refl))) ∙ threads [] y t

@@ -14,15 +14,12 @@ use lib.ListN.{length, getD, take, drop, length-map, List·getD-append}
 use lib.Seq.{split-at, getD-append-add}
 use Rattle.definitions.specs.Lists.{put, filter, total}
 use Rattle.definitions.specs.Words.{Word, Letters, Mer, letters, words}
-use Rattle.laws.specs.Filters.{joined, filter-none, length-joined, filter-split}
-use Rattle.laws.specs.Counting.{filter-cong}
-use Rattle.laws.specs.Tests.{and-l, and-r, and-i, test-ext}
+use Rattle.laws.specs.Filters.{joined, at-map, filter-fixed, length-cond, length-begun, filter-split}
+use Rattle.laws.specs.Numbers.{letters-at}
+use Rattle.laws.specs.Counting.{count, count-cong, filter-cong}
+use Rattle.laws.specs.Tests.{and-l, and-r, and-i, leb-cong}
 
 -- ---- tests over all words
-
-filter-and : (t : Bool) (p : Word → Bool) (l : List Word) → filter (λ z. t && p z) l ≡ cond t (filter p l) []
-filter-and true p l = refl
-filter-and false p l = filter-none l
 
 length-put : (t : Bool) → cond t 1 0 ≡ length (put {A = Word} t [] [])
 length-put true = refl
@@ -36,13 +33,6 @@ getD-put false r = refl
 below-cond : (t : Bool) (n r : ℕ) → r < cond t n 0 → (t ≡ true) × (r < n)
 below-cond true n r h = (refl, h)
 below-cond false n r h = absurd (omega arith)
-
-length-cond : (t : Bool) (l : List Word) → length (cond t l []) ≡ cond t (length l) 0
-length-cond true l = refl
-length-cond false l = refl
-
-length-begun : (F : ℕ → List Word) (ls : List ℕ) → length (joined (λ a. map (λ (z : Word). a ∷ z) (F a)) ls) ≡ total (map (λ a. length (F a)) ls)
-length-begun F ls = length-joined (λ a. map (λ (z : Word). a ∷ z) (F a)) ls ∙ simp length-map
 
 -- ---- choosing a letter by counts
 
@@ -69,23 +59,11 @@ abbrev pub onwards : (ℕ → ℕ) → (ℕ → ℕ → Word) → List ℕ → �
 onwards c f ls a (some z) = some (a ∷ z)
 onwards c f ls a none = offer (ltb 0 (total (map c ls))) (choose c f ls 0)
 
-letter-at : (a : ℕ) → a < 4 → getD letters a 0 ≡ a
-letter-at zero h = refl
-letter-at (suc zero) h = refl
-letter-at (suc (suc zero)) h = refl
-letter-at (suc (suc (suc zero))) h = refl
-letter-at (suc (suc (suc (suc a)))) h = absurd (omega arith)
-
 letters-split : (a : ℕ) → a < 4 → letters ≡ take a letters ++ a ∷ later a
-letters-split a h = rw (letter-at a h) at (split-at letters a 0 h)
-
-getD-begun : (a : ℕ) (l : List Word) (r : ℕ) → r < length l → getD (map (λ (z : Word). a ∷ z) l) r [] ≡ a ∷ getD l r []
-getD-begun a [] r h = absurd (omega arith)
-getD-begun a (z ∷ l) zero h = refl
-getD-begun a (z ∷ l) (suc r) h = getD-begun a l r (omega arith)
+letters-split a h = rw (letters-at h) at (split-at letters a 0 h)
 
 ltb-add : (p u v : ℕ) → ltb (p + u) (p + v) ≡ ltb u v
-ltb-add p u v = test-ext (ltb (p + u) (p + v)) (ltb u v) (λ e. lt-ltb u v (omega (arith, ltb-true (p + u) (p + v) e))) (λ e. lt-ltb (p + u) (p + v) (omega (arith, ltb-true u v e)))
+ltb-add p u v = leb-cong (suc (p + u)) (p + v) (suc u) v (λ h. omega arith) (λ h. omega arith)
 
 module _ (c : ℕ → ℕ) where
   total-append : (us vs : List ℕ) → total (map c (us ++ vs)) ≡ total (map c us) + total (map c vs)
@@ -114,7 +92,7 @@ module _ (c : ℕ → ℕ) where
   falls-letter : (r : ℕ) → r < total (map c letters) → (a : ℕ) × (t : ℕ) × (a < 4) × (t < c a) × (passed c a + t ≡ r)
   falls-letter r h =
       let q = falls letters r h in
-      (q .0, q .1, q .2, rw (letter-at (q .0) (q .2)) at (q .3), q .4)
+      (q .0, q .1, q .2, rw (letters-at (q .2)) at (q .3), q .4)
 
   module _ (f : ℕ → ℕ → Word) where
     choose-here : (a : ℕ) (ls : List ℕ) (t : ℕ) → t < c a → choose c f (a ∷ ls) t ≡ a ∷ f a t
@@ -151,7 +129,7 @@ module _ (c : ℕ → ℕ) where
             → getD (begun a ++ joined begun ls) r [] ≡ cond t (a ∷ f a r) (choose c f ls (r - c a))
         go true e rec =
             let l : r < c a = ltb-true r (c a) e in
-            List·getD-append (begun a) (joined begun ls) [] r (omega (arith, size)) ∙ getD-begun a (F a) r (omega (arith, n a)) ∙ ap (λ (z : Word). a ∷ z) (h a r l)
+            List·getD-append (begun a) (joined begun ls) [] r (omega (arith, size)) ∙ at-map (λ (z : Word). a ∷ z) (F a) [] [] r (omega (arith, n a)) ∙ ap (λ (z : Word). a ∷ z) (h a r l)
         go false e rec =
             let l : c a ≤ r = ltb-false r (c a) e in
             ap (λ (i : ℕ). getD (begun a ++ joined begun ls) i []) (omega (arith, size)) ∙ getD-append-add (begun a) (joined begun ls) (r - c a) [] ∙ rec
@@ -206,7 +184,7 @@ module _ {S : Type 0} (ok : S → ℕ → ℕ → Bool) (step : S → ℕ → S)
       one : (a : ℕ) → filter (λ z. accepts s (a ∷ z)) (words n) ≡ rest s n a
       one a =
           filter-cong (λ z. accepts s (a ∷ z)) (λ z. ok s n a && accepts (step s a) z) n (λ z m. ap (λ (i : ℕ). ok s i a && accepts (step s a) z) (m .0))
-          ∙ filter-and (ok s n a) (accepts (step s a)) (words n)
+          ∙ filter-fixed (ok s n a) (accepts (step s a)) (words n)
 
   rest-count : (s : S) (n a : ℕ) → ways (step s a) n ≡ length (filter (accepts (step s a)) (words n)) → length (rest s n a) ≡ branch s n a
   rest-count s n a h = length-cond (ok s n a) (filter (accepts (step s a)) (words n)) ∙ ap (λ (k : ℕ). cond (ok s n a) k 0) (sym h)
@@ -216,6 +194,10 @@ module _ {S : Type 0} (ok : S → ℕ → ℕ → Bool) (step : S → ℕ → S)
   ways-count s zero = length-put (end s)
   ways-count s (suc n) =
       sym (ap length (accepts-split s n) ∙ length-begun (rest s n) letters ∙ ap (λ (c : ℕ → ℕ). total (map c letters)) (fun-ext (λ a. rest-count s n a (ways-count (step s a) n))))
+
+  -- a test that agrees with the acceptor counts what the table does
+  pub count-accepted : (p : Word → Bool) (s : S) (n : ℕ) → ((y : Word) → Letters y → p y ≡ accepts s y) → count p n ≡ ways s n
+  count-accepted p s n h = count-cong p (accepts s) n (λ y k. h y (k .1)) ∙ sym (ways-count s n)
 
   -- the accepted word of n letters at a place
   abbrev pub wordAt : S → ℕ → ℕ → Word
@@ -263,14 +245,6 @@ module _ {S : Type 0} (ok : S → ℕ → ℕ → Bool) (step : S → ℕ → S)
       let l = below-cond (ok s n (q .0)) (ways (step s (q .0)) n) (q .1) (q .3) in
       let z = walked (step s (q .0)) n (q .1) (l .1) in
       subst⁻¹ (At s (suc n) r) (q .5) (and-i _ _ (ap (λ (i : ℕ). ok s i (q .0)) (z .1 .0) ∙ l .0) (z .0), (ap suc (z .1 .0), (q .2, z .1 .1)), omega (arith, z .2, q .4))
-
-  -- the walk finds an accepted word
-  pub word-accepted : (s : S) (n r : ℕ) → r < ways s n → accepts s (wordAt s n r) ≡ true
-  word-accepted s n r h = walked s n r h .0
-
-  -- the walk finds a word of n letters
-  pub word-mer : (s : S) (n r : ℕ) → r < ways s n → Mer n (wordAt s n r)
-  word-mer s n r h = walked s n r h .1
 
   -- the word at a place has that place
   pub place-word : (s : S) (n r : ℕ) → r < ways s n → placeAt s n (wordAt s n r) ≡ r
@@ -335,6 +309,13 @@ filter-test p n = ap (λ (q : Word → Bool). filter q (words n)) (fun-ext (acce
 pub filter-ways : (p : Word → Bool) (n : ℕ) → ways freely behind ended p n ≡ length (filter p (words n))
 filter-ways p n = ways-count freely behind ended p n ∙ ap length (filter-test p n)
 
+-- the r-th word that passes a test: the letter under whose count r falls, and behind it the word at the place that is left
+pub filter-letter : (p : Word → Bool) (n r : ℕ)
+    → getD (filter p (words (suc n))) r [] ≡ choose (λ a. count (behind p a) n) (λ a t. getD (filter (behind p a) (words n)) t []) letters r
+filter-letter p n r =
+    ap (λ (l : List Word). getD l r []) (filter-split p n)
+    ∙ getD-joined (λ a. count (behind p a) n) (λ a t. getD (filter (behind p a) (words n)) t []) (λ a. filter (behind p a) (words n)) (λ a. refl) (λ a t h. refl) letters r
+
 -- the r-th word that passes a test is found letter by letter from the counts
 pub filter-word : (p : Word → Bool) (n r : ℕ) → getD (filter p (words n)) r [] ≡ wordAt freely behind ended p n r
 filter-word p n r = ap (λ (l : List Word). getD l r []) (sym (filter-test p n)) ∙ word-at freely behind ended p n r
@@ -349,29 +330,3 @@ filter-place p n x m e =
 -- the r-th word that passes a test has place r
 pub place-filter : (p : Word → Bool) (n r : ℕ) → r < length (filter p (words n)) → placeAt freely behind ended p n (getD (filter p (words n)) r []) ≡ r
 place-filter p n r h = ap (placeAt freely behind ended p n) (filter-word p n r) ∙ place-word freely behind ended p n r (omega (arith, filter-ways p n))
-
--- ---- other states
-
-module _ {S S′ : Type 0} (ok : S → ℕ → ℕ → Bool) (step : S → ℕ → S) (end : S → Bool)
-    (ok′ : S′ → ℕ → ℕ → Bool) (step′ : S′ → ℕ → S′) (end′ : S′ → Bool) (c : S → S′) (I : S → Type 0)
-    (kept : (s : S) (a : ℕ) → I s → a < 4 → I (step s a))
-    (oks : (s : S) (n a : ℕ) → I s → a < 4 → ok s n a ≡ ok′ (c s) n a)
-    (steps : (s : S) (a : ℕ) → I s → a < 4 → c (step s a) ≡ step′ (c s) a)
-    (ends : (s : S) → I s → end s ≡ end′ (c s)) where
-  -- an acceptor accepts what its image under a map of states does
-  pub run-cong : (s : S) (x : Word) → Letters x → I s → accepts ok step end s x ≡ accepts ok′ step′ end′ (c s) x
-  run-cong s [] l i = ends s i
-  run-cong s (a ∷ z) l i =
-      ap₂ _&&_ (oks s (length z) a i (l .0)) (run-cong (step s a) z (l .1) (kept s a i (l .0)) ∙ ap (λ (t : S′). accepts ok′ step′ end′ t z) (steps s a i (l .0)))
-
-  filter-run : (s : S) (n : ℕ) → I s → filter (accepts ok step end s) (words n) ≡ filter (accepts ok′ step′ end′ (c s)) (words n)
-  filter-run s n i = filter-cong (accepts ok step end s) (accepts ok′ step′ end′ (c s)) n (λ z m. run-cong s z (m .1) i)
-
-  -- its table is that of the image
-  pub ways-cong : (s : S) (n : ℕ) → I s → ways ok step end s n ≡ ways ok′ step′ end′ (c s) n
-  ways-cong s n i = ways-count ok step end s n ∙ ap length (filter-run s n i) ∙ sym (ways-count ok′ step′ end′ (c s) n)
-
-  -- its words are those of the image
-  pub word-cong : (s : S) (n r : ℕ) → I s → wordAt ok step end s n r ≡ wordAt ok′ step′ end′ (c s) n r
-  word-cong s n r i =
-      sym (word-at ok step end s n r) ∙ ap (λ (l : List Word). getD l r []) (filter-run s n i) ∙ word-at ok′ step′ end′ (c s) n r
