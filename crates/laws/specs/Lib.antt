@@ -9,7 +9,7 @@
 -- Orders                    forms that go letter by letter; the keyed form; the vigemin is w exactly if
 -- Split                     the size is the sum of antemers times postmers
 -- States, Threads           the states of a word w; reading a word beside w with all m-mers at once
--- Acceptors, Tables, Marks  postmers, antemers and shelf words accepted by states; their tables; walking a shelf
+-- Acceptors, Tables, Pages  postmers, antemers and shelf words accepted by states; their tables; walking a shelf
 -- Prefixes, Rules           counts by shared prefix; document 01's R, Σ and T
 -- ByPrefix, Antemers, Postmers   each of document 01's rules, by name
 -- Print                     four errors of the printed rules, each with a computed case
@@ -29,7 +29,7 @@ pub mod States
 pub mod Threads
 pub mod Acceptors
 pub mod Tables
-pub mod Marks
+pub mod Pages
 pub mod Prefixes
 pub mod Rules
 pub mod ByPrefix

@@ -54,17 +54,17 @@ least-at v (w ∷ ws) false e s =
     record { inside = omega (arith, r .inside); lowest = later-lowest v (w ∷ ws) r k; leftmost = later-leftmost v (w ∷ ws) r k }
 
 -- leastPlace is the place of the least number, the leftmost of equals
-pub least : (l : List ℕ) → 0 < length l → Least l (leastPlace l)
-least [] h = absurd (not-suc-le-zero h)
-least (v ∷ vs) h = least-at v vs (all (leb v) vs) refl (λ k. least vs k)
+pub leastPlace-least : (l : List ℕ) → 0 < length l → Least l (leastPlace l)
+leastPlace-least [] h = absurd (not-suc-le-zero h)
+leastPlace-least (v ∷ vs) h = least-at v vs (all (leb v) vs) refl (λ k. leastPlace-least vs k)
 
 -- the place of the least lies inside
 pub least-lt : (l : List ℕ) → 0 < length l → leastPlace l < length l
-least-lt l h = least l h .inside
+least-lt l h = leastPlace-least l h .inside
 
 -- no number is below the least
 pub least-le : (l : List ℕ) {i : ℕ} → i < length l → getD l (leastPlace l) 0 ≤ getD l i 0
-least-le l {i} h = least l (omega arith) .lowest i h
+least-le l {i} h = leastPlace-least l (omega arith) .lowest i h
 
 -- where some place lies left of the least, there are numbers
 least-some : (l : List ℕ) {i : ℕ} → i < leastPlace l → 0 < length l
@@ -73,7 +73,7 @@ least-some (v ∷ vs) h = zero-lt-suc (length vs)
 
 -- every number to the left of the least is strictly above it
 pub least-left : (l : List ℕ) {i : ℕ} → i < leastPlace l → getD l (leastPlace l) 0 < getD l i 0
-least-left l {i} h = least l (least-some l h) .leftmost i h
+least-left l {i} h = leastPlace-least l (least-some l h) .leftmost i h
 
 -- of two places of the least, neither is left of the other
 not-left : {l : List ℕ} {p q : ℕ} → Least l p → Least l q → ¬ (p < q)
@@ -82,7 +82,7 @@ not-left {p} s t h = omega (arith, t .leftmost p h, s .lowest _ (t .inside))
 -- a place inside, that no number is below and left of which every number is strictly above, is the place of the least
 pub least-unique : (l : List ℕ) {p : ℕ} → Least l p → leastPlace l ≡ p
 least-unique l {p} s =
-    let t : Least l (leastPlace l) = least l (omega (arith, s .inside)) in
+    let t : Least l (leastPlace l) = leastPlace-least l (omega (arith, s .inside)) in
     omega (arith, not-left s t, not-left t s)
 
 -- ---- two neighbouring stretches
@@ -123,7 +123,7 @@ append-at u v {p} {q} r s false e = append-second u v r s (leb-false (getD u p 0
 -- the least of two neighbouring stretches is the left one's where that is not above the right one's, and else the right one's
 pub least-append : (u v : List ℕ) → 0 < length u → 0 < length v
     → leastPlace (u ++ v) ≡ cond (leb (getD u (leastPlace u) 0) (getD v (leastPlace v) 0)) (leastPlace u) (length u + leastPlace v)
-least-append u v h k = least-unique (u ++ v) (append-at u v (least u h) (least v k) (leb (getD u (leastPlace u) 0) (getD v (leastPlace v) 0)) refl)
+least-append u v h k = least-unique (u ++ v) (append-at u v (leastPlace-least u h) (leastPlace-least v k) (leb (getD u (leastPlace u) 0) (getD v (leastPlace v) 0)) refl)
 
 min-at : (u v : List ℕ) {p : ℕ} (q : ℕ) → p < length u → (t : Bool) → leb (getD u p 0) (getD v q 0) ≡ t
     → getD (u ++ v) (cond t p (length u + q)) 0 ≡ min (getD u p 0) (getD v q 0)

@@ -167,10 +167,10 @@ letters-append [] v hu hv = hv
 letters-append (a ∷ u) v hu hv = (hu .0, letters-append u v (hu .1) hv)
 
 -- at each place of a word stands a letter; past its end the letter A, which is 0, is read
-pub letter-at : (x : Word) (p : ℕ) → Letters x → getD x p 0 < 4
-letter-at [] p h = omega arith
-letter-at (a ∷ x) zero h = h .0
-letter-at (a ∷ x) (suc p) h = letter-at x p (h .1)
+pub letter-lt : (x : Word) (p : ℕ) → Letters x → getD x p 0 < 4
+letter-lt [] p h = omega arith
+letter-lt (a ∷ x) zero h = h .0
+letter-lt (a ∷ x) (suc p) h = letter-lt x p (h .1)
 
 -- ---- the sum of letters
 
@@ -279,5 +279,5 @@ text-letters (a ∷ x) h =
     and-i (isLetter (getD capitals a 0)) (all isLetter (text x)) (each-letter (λ c. isLetter (getD capitals c 0)) refl (h .0)) (text-letters x (h .1))
 
 -- a text has a bad place exactly if it is not all letters
-pub bad-none : (t : List ℕ) → ltb (firstBad t) (length t) ≡ not (all isLetter t)
-bad-none t = firstPlace-all isLetter t
+pub firstBad-all : (t : List ℕ) → ltb (firstBad t) (length t) ≡ not (all isLetter t)
+firstBad-all t = firstPlace-all isLetter t

@@ -1,5 +1,5 @@
 -- Forms that go letter by letter, by a ranking for each place: the keyed form is one, and under such a form words are compared
--- letter by letter. All laws of shelves are proved over these.
+-- letter by letter. The split, the tables and document 01's rules are proved over these.
 -- Assumes nothing.
 use Prim.Native.Nat.{ℕ, zero, suc, _<_}
 use mathlib.Core.Bool.{Bool, true, false, not, _&&_, _||_}
@@ -15,7 +15,7 @@ use Rattle.definitions.specs.Shelves.{postmer}
 use Rattle.laws.specs.Tests.{test-ext}
 use Rattle.laws.specs.Filters.{any}
 use Rattle.laws.specs.Minima.{windows-mer, vigemin-is}
-use Rattle.laws.specs.Numbers.{atMost, number-atMost, number-inj, letter-at, sum-lt, sum-cancel, sum-zero}
+use Rattle.laws.specs.Numbers.{atMost, number-atMost, number-inj, letter-lt, sum-lt, sum-cancel, sum-zero}
 
 -- for each place the rank of each letter
 abbrev pub Ranking : Type 0
@@ -62,8 +62,8 @@ keyed-ranked key = fun-ext (keyed-at key)
 -- and is one-to-one at each place
 pub keyed-one-to-one : (key : Word) → Letters key → OneToOne (keyRanking key)
 keyed-one-to-one key h = record {
-  small = λ p a ha. sum-lt ha (letter-at key p h);
-  apart = λ p a b ha hb e. sum-cancel ha hb (letter-at key p h) e;
+  small = λ p a ha. sum-lt ha (letter-lt key p h);
+  apart = λ p a b ha hb e. sum-cancel ha hb (letter-lt key p h) e;
 }
 
 -- what holds of every form that goes letter by letter by one-to-one rankings holds of the keyed form

@@ -15,7 +15,7 @@ use Rattle.definitions.specs.Lists.{put, filter, all, total}
 use Rattle.definitions.specs.Words.{Word, Letters, letters, same}
 use Rattle.definitions.specs.Vigemins.{Form, value, below}
 use Rattle.definitions.specs.Shelves.{postmer, begins, postmers}
-use Rattle.laws.specs.Numbers.{each-letter, letters-take, letter-at}
+use Rattle.laws.specs.Numbers.{each-letter, letters-take, letter-lt}
 use Rattle.laws.specs.Minima.{windows-none}
 use Rattle.laws.specs.Counting.{count, count-cong, count-none, count-every, count-split, count-first}
 use Rattle.laws.specs.Orders.{Ranking, OneToOne, ranked}
@@ -35,7 +35,7 @@ three : (w : Word) (i : ℕ) → Letters w → i < length w → length (filter (
 three w i hw h =
     ap (λ (t : Bool). length (filter (λ b. not (t && eqb b (getD w i 0))) letters)) (lt-ltb i (length w) h)
     ∙ eqb-true (length (filter (λ b. not (eqb b (getD w i 0))) letters)) 3
-    (each-letter (λ a. eqb (length (filter (λ b. not (eqb b a)) letters)) 3) refl (letter-at w i hw))
+    (each-letter (λ a. eqb (length (filter (λ b. not (eqb b a)) letters)) 3) refl (letter-lt w i hw))
 
 -- no m-mer of w itself is below w
 postmer-self : (f : Form) (w : Word) → 0 < length w → postmer f w w ≡ true

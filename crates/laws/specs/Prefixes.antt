@@ -8,7 +8,7 @@ use mathlib.Core.Logic.{⊎-elim}
 use mathlib.Core.Path.{_≡_, refl, sym, ap, ap₂, fun-ext, _∙_}
 use native.Mathlib.Nat.{zero-add, add-zero, suc-add, add-suc, add-assoc, le-of-suc-le-suc, not-suc-le-zero}
 use native.Mathlib.Omega.{arith}
-use borrow.Author.Tests.{leb-true, le-leb, lt-leb, eqb-true, eqb-false}
+use borrow.Author.Tests.{lt-ltb, leb-true, le-leb, lt-leb, eqb-true, eqb-false}
 use lib.Dec.{ltb, leb, eqb, leb·zero, leb·suc-zero, leb·suc-suc, eqb·zero-suc, eqb·suc-zero, eqb·suc-suc}
 use lib.ListN.{length, getD, take, drop, drop-of-length-le}
 use lib.Seq.{length-take-le, take-all}
@@ -39,6 +39,10 @@ sharingFrom w p i n = count (λ y. p y && leb i (shared w y)) n
 -- whether a letter is the next one of w after i letters
 abbrev pub goesOn : Word → ℕ → ℕ → Bool
 goesOn w i b = ltb i (length w) && eqb b (getD w i 0)
+
+-- inside w that is a test of its letter there
+pub goesOn-at : (w : Word) (i b : ℕ) → i < length w → goesOn w i b ≡ eqb b (getD w i 0)
+goesOn-at w i b h = ap (λ (t : Bool). t && eqb b (getD w i 0)) (lt-ltb i (length w) h)
 
 -- whether what follows i letters of w does not begin with the next one
 abbrev pub stops : Word → ℕ → Word → Bool

@@ -51,6 +51,10 @@ module _ (key w : Word) where
   abbrev pub lemma5 : (ℕ → ℕ) → ℕ → ℕ → ℕ
   lemma5 next i β = rightSide (λ b. not (own w (suc i) b)) (T i) (λ t. suc β - t) next i β
 
+  -- with the minus
+  abbrev pub lemma5Mended : ℕ → ℕ → ℕ
+  lemma5Mended i β = lemma5 (λ t. suc β - t) i β
+
   -- the print counts at the length β + T + 1: the plus should be a minus
   abbrev pub lemma5Printed : ℕ → ℕ → ℕ
   lemma5Printed i β = lemma5 (λ t. β + t + 1) i β
@@ -87,7 +91,7 @@ abbrev taa : Word
 taa = 3 ∷ 0 ∷ 0 ∷ []
 
 -- key AAA, word ACA: Lemma 5 as printed gives 122 for P1(2); with the minus it gives 3, which is right
-pub lemma5-wrong : (lemma5Printed aaa aca 1 2 ≡ 122) × (lemma5 aaa aca (λ t. 2 - t + 1) 1 2 ≡ 3) × (P aaa aca 1 2 ≡ 3)
+pub lemma5-wrong : (lemma5Printed aaa aca 1 2 ≡ 122) × (lemma5Mended aaa aca 1 2 ≡ 3) × (P aaa aca 1 2 ≡ 3)
 lemma5-wrong = (refl, refl, refl)
 
 -- key AAA, word ACA: Lemma 6 as printed gives 12 for P(3); with i = 0 it gives 60, which is right

@@ -7,7 +7,7 @@ use mathlib.Core.List.{[], _∷_, _++_, map}
 use mathlib.Core.Path.{_≡_, refl, sym, ap, ap₂, _∙_}
 use native.Mathlib.Nat.{zero-add, add-zero, suc-add, add-suc, suc-inj, not-suc-le-zero}
 use native.Mathlib.Omega.{arith}
-use borrow.Author.Tests.{ltb-true, ltb-false, lt-ltb, le-ltb, leb-true, leb-false, le-leb, lt-leb, eqb-true, eq-eqb, not-true}
+use borrow.Author.Tests.{ltb-true, ltb-false, le-ltb, leb-true, leb-false, le-leb, lt-leb, eqb-true, eq-eqb, not-true}
 use lib.Dec.{ltb, leb, eqb}
 use lib.ListN.{length, getD, take, drop, length-drop, drop-of-length-le}
 use lib.Seq.{take-suc, length-take-le, drop-append-le}
@@ -16,7 +16,7 @@ use Rattle.definitions.specs.Words.{Word, Letters, letters, val, same}
 use Rattle.definitions.specs.Vigemins.{value}
 use Rattle.laws.specs.Tests.{not-or, and-left-comm, and-l, and-r, and-i, and-cong, test-ext, leb-cong, contrary, same-eq, eq-same}
 use Rattle.laws.specs.Places.{anyTo, anyTo-cong, anyTo-last, anyTo-there, anyTo-down, anyTo-stop, firstTo, firstTo-le, firstTo-is, firstTo-none, firstTo-holds, firstTo-before}
-use Rattle.laws.specs.Numbers.{high-atMost, number-append, letters-take, letters-drop, letter-at}
+use Rattle.laws.specs.Numbers.{high-atMost, number-append, letters-take, letters-drop, letter-lt}
 use Rattle.laws.specs.Counting.{map-agree, letters-lt}
 use Rattle.laws.specs.Orders.{Ranking, OneToOne, ranked, rankedFrom, rank-same, value-one, above-neither}
 use Rattle.laws.specs.States.{matches, first, next, matches-all, matches-short, matches-long, longest-matches, longest-le, longest-is}
@@ -24,7 +24,7 @@ use Rattle.laws.specs.Threads.{bad}
 use Rattle.laws.specs.Acceptors.{belowHit}
 use Rattle.laws.specs.Walks.{accepts, ways}
 use Rattle.laws.specs.Tables.{fine, fineAt, doneAt, allFine, allFine-match, through-fine, ways-free, through}
-use Rattle.laws.specs.Prefixes.{goesOn, sharing, sharingFrom, completions, prefix-rule}
+use Rattle.laws.specs.Prefixes.{goesOn, goesOn-at, sharing, sharingFrom, completions, prefix-rule}
 
 -- below, equal or above
 pub data Sign : Type 0 where
@@ -169,8 +169,8 @@ module _ (ρ : Ranking) (one : OneToOne ρ) (w : Word) (hw : Letters w) where
       ∙ ap₂ ltb (value-last S (getD w i 0)) (value-last (take l w) (getD w l 0))
       ∙ ap₂ (λ (m n : ℕ). ltb (value (ranked ρ) S * 4 + ρ m (getD w i 0)) (value (ranked ρ) (take l w) * 4 + ρ n (getD w l 0))) (length-between w p l i e (omega arith))
       (length-take-le l w (omega arith))
-      ∙ high-atMost false 4 (value (ranked ρ) S) (value (ranked ρ) (take l w)) (ρ l (getD w i 0)) (ρ l (getD w l 0)) (one .small l (getD w i 0) (letter-at w i hw))
-      (one .small l (getD w l 0) (letter-at w l hw))
+      ∙ high-atMost false 4 (value (ranked ρ) S) (value (ranked ρ) (take l w)) (ρ l (getD w i 0)) (ρ l (getD w l 0)) (one .small l (getD w i 0) (letter-lt w i hw))
+      (one .small l (getD w l 0) (letter-lt w l hw))
       ∙ ap₂ (λ (x y : Bool). x || (y && ltb (ρ l (getD w i 0)) (ρ l (getD w l 0)))) (sym (against isLess ltb sign-less)) (sym (against isEqual eqb sign-equal))
     where
       S : Word
@@ -188,15 +188,12 @@ exists w t n j = leb (length w + j) (suc (n + length t))
 -- ---- the letter that follows a shared prefix
 
 module _ (ρ : Ranking) (one : OneToOne ρ) (w : Word) (hw : Letters w) where
-  on-w : (l b : ℕ) → l < length w → goesOn w l b ≡ eqb b (getD w l 0)
-  on-w l b h = ap (λ (t : Bool). t && eqb b (getD w l 0)) (lt-ltb l (length w) h)
-
   -- at a place of w a letter that is not w's and does not rank below it ranks above it
   rank-above : (l b : ℕ) → l < length w → b < 4 → Σ ρ w (suc l) b ≡ (not (goesOn w l b) && not (ltb (ρ l b) (ρ l (getD w l 0))))
   rank-above l b h hb =
       ap (λ (t : Bool). t || ltb (ρ l (getD w l 0)) (ρ l b)) (lt-leb (length w) l h)
       ∙ above-neither (ρ l b) (ρ l (getD w l 0))
-      ∙ ap (λ (t : Bool). not t && not (ltb (ρ l b) (ρ l (getD w l 0)))) (rank-same ρ one l b (getD w l 0) hb (letter-at w l hw) ∙ sym (on-w l b h))
+      ∙ ap (λ (t : Bool). not t && not (ltb (ρ l b) (ρ l (getD w l 0)))) (rank-same ρ one l b (getD w l 0) hb (letter-lt w l hw) ∙ sym (goesOn-at w l b h))
 
   -- and one that ranks above w's or is it does not rank below it
   rank-not-below : (l b : ℕ) → l < length w → b < 4 → (Σ ρ w (suc l) b || own w (suc l) b) ≡ not (ltb (ρ l b) (ρ l (getD w l 0)))
@@ -205,11 +202,58 @@ module _ (ρ : Ranking) (one : OneToOne ρ) (w : Word) (hw : Letters w) where
     where
       go : (x y : Bool) → ltb (ρ l b) (ρ l (getD w l 0)) ≡ x → goesOn w l b ≡ y → (not y && not x || y) ≡ not x
       go true true p q =
-          let e : ρ l b ≡ ρ l (getD w l 0) = ap (ρ l) (eqb-true b (getD w l 0) (sym (on-w l b h) ∙ q)) in
+          let e : ρ l b ≡ ρ l (getD w l 0) = ap (ρ l) (eqb-true b (getD w l 0) (sym (goesOn-at w l b h) ∙ q)) in
           absurd (omega (arith, ltb-true (ρ l b) (ρ l (getD w l 0)) p))
       go true false p q = refl
       go false true p q = refl
       go false false p q = refl
+
+  tied-matches : (i b q : ℕ) → i ≤ length w → q < i → (isEqual (R ρ w i (suc (suc q))) && own w (i - q) b) ≡ matches w (i - q) (b ∷ first w i)
+  tied-matches i b q h k = at (i - suc q) (omega arith) ∙ ap (λ (n : ℕ). matches w n (b ∷ first w i)) (sym up)
+    where
+      up : i - q ≡ suc (i - suc q)
+      up = omega arith
+
+      at : (l : ℕ) → suc q + l ≡ i → (isEqual (R ρ w i (suc (suc q))) && own w (i - q) b) ≡ matches w (suc l) (b ∷ first w i)
+      at l e =
+          ap₂ (λ (x : Bool) (n : ℕ). x && own w n b) (equal-matches ρ one w hw (suc q) l i e h) (let d : i - q ≡ suc l = omega arith in d)
+          ∙ ap (λ (x : Bool). matches w l (first w i) && x) (goesOn-at w l b (omega arith))
+          ∙ and-comm (matches w l (first w i)) (eqb b (getD w l 0))
+
+  -- the state after i letters of w and one that does not go on is i−T+2, where every m-mer counts
+  pub next-tied : (i b : ℕ) → i ≤ length w → goesOn w i b ≡ false → next w i b ≡ suc (suc i) - T ρ w (λ j. true) i b
+  next-tied i b h off =
+      let e : i - start ≡ suc (suc i) - suc (suc start) = omega arith in
+      longest-is w (length w) (b ∷ first w i) (i - start) (omega arith) (tie (ltb start i) refl) high ∙ e
+    where
+      tied : ℕ → Bool
+      tied q = isEqual (R ρ w i (suc (suc q))) && own w (i - q) b
+
+      start : ℕ
+      start = firstTo i tied
+
+      tie : (d : Bool) → ltb start i ≡ d → matches w (i - start) (b ∷ first w i) ≡ true
+      tie true p = sym (tied-matches i b start h (ltb-true start i p)) ∙ firstTo-holds i tied (ltb-true start i p)
+      tie false p = ap (λ (n : ℕ). matches w n (b ∷ first w i)) (let e : i - start ≡ zero = omega (arith, ltb-false start i p) in e)
+
+      later : (l : ℕ) → i ≤ l → l < length w → (d : Bool) → leb l i ≡ d → matches w (suc l) (b ∷ first w i) ≡ false
+      later l k m true p =
+          let e : l ≡ i = omega (arith, leb-true l i p) in
+          ap (λ (x : Bool). x && matches w l (first w i)) (ap (λ (n : ℕ). eqb b (getD w n 0)) e ∙ sym (goesOn-at w i b (omega arith)) ∙ off)
+      later l k m false p = matches-long w i b (suc l) (omega (arith, leb-false l i p))
+
+      earlier : (l : ℕ) → i - start < l → l ≤ i → matches w l (b ∷ first w i) ≡ false
+      earlier l k m =
+          ap (λ (n : ℕ). matches w n (b ∷ first w i)) (let e : l ≡ i - (i - l) = omega arith in e)
+          ∙ sym (tied-matches i b (i - l) h (omega arith)) ∙ firstTo-before i tied (i - l) (omega arith)
+
+      high : (l : ℕ) → i - start < l → l ≤ length w → matches w l (b ∷ first w i) ≡ false
+      high zero k m = absurd (not-suc-le-zero k)
+      high (suc l) k m = go (leb (suc l) i) refl
+        where
+          go : (d : Bool) → leb (suc l) i ≡ d → matches w (suc l) (b ∷ first w i) ≡ false
+          go true p = earlier (suc l) k (leb-true (suc l) i p)
+          go false p = later l (omega (arith, leb-false (suc l) i p)) m (leb l i) refl
 
   module _ (final : Bool) (t : Word) where
     -- a hit at the place of one m-mer
@@ -353,53 +397,6 @@ module _ (ρ : Ranking) (one : OneToOne ρ) (w : Word) (hw : Letters w) (final :
           ∙ ap₂ (λ (x y : Bool). x || (ltb i (length w) && y)) (sym (row-hits i r h free)) (le-ltb (ρ i (getD w i 0)) (ρ i (getD w i 0)) (omega arith))
           ∙ ap (λ (x : Bool). row (i + suc r) || x) (and-false (ltb i (length w))) ∙ or-false (row (i + suc r))
 
-  tied-matches : (i b q : ℕ) → i ≤ length w → q < i → (isEqual (R ρ w i (suc (suc q))) && own w (i - q) b) ≡ matches w (i - q) (b ∷ first w i)
-  tied-matches i b q h k = at (i - suc q) (omega arith) ∙ ap (λ (n : ℕ). matches w n (b ∷ first w i)) (sym up)
-    where
-      up : i - q ≡ suc (i - suc q)
-      up = omega arith
-
-      at : (l : ℕ) → suc q + l ≡ i → (isEqual (R ρ w i (suc (suc q))) && own w (i - q) b) ≡ matches w (suc l) (b ∷ first w i)
-      at l e =
-          ap₂ (λ (x : Bool) (n : ℕ). x && own w n b) (equal-matches ρ one w hw (suc q) l i e h) (let d : i - q ≡ suc l = omega arith in d)
-          ∙ ap (λ (x : Bool). matches w l (first w i) && x) (on-w ρ one w hw l b (omega arith))
-          ∙ and-comm (matches w l (first w i)) (eqb b (getD w l 0))
-
-  -- the state after i letters of w and one that does not go on is i−T+2, where every m-mer counts
-  pub next-tied : (i b : ℕ) → i ≤ length w → goesOn w i b ≡ false → next w i b ≡ suc (suc i) - T ρ w (λ j. true) i b
-  next-tied i b h off =
-      let e : i - start ≡ suc (suc i) - suc (suc start) = omega arith in
-      longest-is w (length w) (b ∷ first w i) (i - start) (omega arith) (tie (ltb start i) refl) high ∙ e
-    where
-      tied : ℕ → Bool
-      tied q = isEqual (R ρ w i (suc (suc q))) && own w (i - q) b
-
-      start : ℕ
-      start = firstTo i tied
-
-      tie : (d : Bool) → ltb start i ≡ d → matches w (i - start) (b ∷ first w i) ≡ true
-      tie true p = sym (tied-matches i b start h (ltb-true start i p)) ∙ firstTo-holds i tied (ltb-true start i p)
-      tie false p = ap (λ (n : ℕ). matches w n (b ∷ first w i)) (let e : i - start ≡ zero = omega (arith, ltb-false start i p) in e)
-
-      later : (l : ℕ) → i ≤ l → l < length w → (d : Bool) → leb l i ≡ d → matches w (suc l) (b ∷ first w i) ≡ false
-      later l k m true p =
-          let e : l ≡ i = omega (arith, leb-true l i p) in
-          ap (λ (x : Bool). x && matches w l (first w i)) (ap (λ (n : ℕ). eqb b (getD w n 0)) e ∙ sym (on-w ρ one w hw i b (omega arith)) ∙ off)
-      later l k m false p = matches-long w i b (suc l) (omega (arith, leb-false l i p))
-
-      earlier : (l : ℕ) → i - start < l → l ≤ i → matches w l (b ∷ first w i) ≡ false
-      earlier l k m =
-          ap (λ (n : ℕ). matches w n (b ∷ first w i)) (let e : l ≡ i - (i - l) = omega arith in e)
-          ∙ sym (tied-matches i b (i - l) h (omega arith)) ∙ firstTo-before i tied (i - l) (omega arith)
-
-      high : (l : ℕ) → i - start < l → l ≤ length w → matches w l (b ∷ first w i) ≡ false
-      high zero k m = absurd (not-suc-le-zero k)
-      high (suc l) k m = go (leb (suc l) i) refl
-        where
-          go : (d : Bool) → leb (suc l) i ≡ d → matches w (suc l) (b ∷ first w i) ≡ false
-          go true p = earlier (suc l) k (leb-true (suc l) i p)
-          go false p = later l (omega (arith, leb-false (suc l) i p)) m (leb l i) refl
-
 -- a sum over the letters
 total-letters : (f g : ℕ → ℕ) → ((b : ℕ) → b < 4 → f b ≡ g b) → total (map f letters) ≡ total (map g letters)
 total-letters f g h = ap total (map-agree f g letters (λ b m. h b (letters-lt m)))
@@ -451,7 +448,7 @@ module _ (ρ : Ranking) (one : OneToOne ρ) (w : Word) (hw : Letters w) (final :
     after-letter = go (ltb (firstTo i tied) i) refl (exists w t (i + suc r) (suc (suc (firstTo i tied)))) refl
       where
         state-is : next w i b ≡ i - firstTo i tied
-        state-is = omega (arith, next-tied ρ one w hw final t i b h off)
+        state-is = omega (arith, next-tied ρ one w hw i b h off)
 
         within : firstTo i tied ≤ i
         within = firstTo-le i tied

@@ -19,8 +19,8 @@ use Rattle.laws.specs.Tests.{not-or, and-l, and-r, and-i, and-cong, and-
 use Rattle.laws.specs.Counting.{count, filter-cong, count-cong, count-fixed, count-first}
 use Rattle.laws.specs.Walks.{accepts, ways, ways-count, count-accepted}
 use Rattle.laws.specs.Orders.{Ranking, OneToOne, ranked, vigemin-exactly}
-use Rattle.laws.specs.States.{matches, first, state, next, longest-matches, longest-max, longest-le, matches-first, matches-short, state-matches, state-step, state-first, next-le}
-use Rattle.laws.specs.Places.{anyTo, anyTo-cong, anyTo-none, anyTo-last, anyTo-mono}
+use Rattle.laws.specs.States.{matches, first, state, next, longest-matches, longest-max, longest-le, matches-first, matches-all, matches-short, state-matches, state-step, state-first, next-le}
+use Rattle.laws.specs.Places.{anyTo, anyTo-there, anyTo-cong, anyTo-none, anyTo-last, anyTo-mono}
 use Rattle.laws.specs.Threads.{caught, oldCaught, newCaught, bad, run, threads-new}
 use Rattle.laws.specs.Acceptors.{belowHit, postmer-threads, antemer-threads, holds-threads}
 
@@ -326,11 +326,11 @@ state-full w past =
     (λ e. ap (λ (i : ℕ). matches w i past) (sym (eqb-true (state w past) (length w) e)) ∙ longest-matches w (length w) past)
 
 -- no letter is asked for but those of w
-abbrev none : ℕ → ℕ → ℕ → Bool
-none l b r = false
+abbrev noHit : ℕ → ℕ → ℕ → Bool
+noHit l b r = false
 
-bad-none : (w past : Word) (r b : ℕ) → bad w none true past r b ≡ matches w (length w) past
-bad-none w past r b =
+bad-noHit : (w past : Word) (r b : ℕ) → bad w noHit true past r b ≡ matches w (length w) past
+bad-noHit w past r b =
     ap₂ (λ (x y : Bool). x || y) (and-true (matches w (length w) past))
     (anyTo-none (length w) (λ l h. and-false (matches w l past)))
     ∙ or-false (matches w (length w) past)
@@ -342,28 +342,28 @@ postmer-end ρ w m i = ap not (old-none w (belowHit ρ w) false (first w i) m �
 module _ (ρ : Ranking) (w : Word) (m : 0 < length w) where
   shelf-run : (h : Bool) (past y : Word)
       → accepts (shelfOk ρ w) (shelfStep ρ w) (shelfEnd ρ w) (h, state w past) y
-      ≡ (accepts (postmerOk ρ w) (next w) (postmerEnd ρ w) (state w past) y && (h || run w none true past y []))
+      ≡ (accepts (postmerOk ρ w) (next w) (postmerEnd ρ w) (state w past) y && (h || run w noHit true past y []))
   shelf-run h past [] =
       sym (ap₂ (λ (x y : Bool). x && (h || y)) (postmer-end ρ w m (state w past))
-      (old-none w none true past m ∙ and-true (matches w (length w) past) ∙ state-full w past))
+      (old-none w noHit true past m ∙ and-true (matches w (length w) past) ∙ state-full w past))
   shelf-run h past (b ∷ y) =
       ap (λ (t : Bool). postmerOk ρ w (state w past) (length y) b && t)
       (ap₂ (λ (g : Bool) (i : ℕ). accepts (shelfOk ρ w) (shelfStep ρ w) (shelfEnd ρ w) (h || g, i) y) (sym (state-full w past)) (sym (state-step w b past))
       ∙ shelf-run (h || matches w (length w) past) (b ∷ past) y)
       ∙ sym (and-assoc (postmerOk ρ w (state w past) (length y) b) (accepts (postmerOk ρ w) (next w) (postmerEnd ρ w) (state w (b ∷ past)) y)
-      (h || matches w (length w) past || run w none true (b ∷ past) y []))
+      (h || matches w (length w) past || run w noHit true (b ∷ past) y []))
       ∙ ap₂ (λ (i : ℕ) (t : Bool). postmerOk ρ w (state w past) (length y) b && accepts (postmerOk ρ w) (next w) (postmerEnd ρ w) i y && t)
       (state-step w b past)
-      (or-assoc h (matches w (length w) past) (run w none true (b ∷ past) y [])
-      ∙ ap (λ (t : Bool). h || (t || run w none true (b ∷ past) y [])) (sym (bad-none w past (suc (length y + 0)) b)))
+      (or-assoc h (matches w (length w) past) (run w noHit true (b ∷ past) y [])
+      ∙ ap (λ (t : Bool). h || (t || run w noHit true (b ∷ past) y [])) (sym (bad-noHit w past (suc (length y + 0)) b)))
 
 module _ (ρ : Ranking) (one : OneToOne ρ) (w : Word) (hw : Letters w) (m : 0 < length w) where
   -- a word is on the shelf exactly if it is accepted
   pub shelf-accepted : (x : Word) → Letters x → same (vigemin (ranked ρ) (length w) x) w ≡ accepts (shelfOk ρ w) (shelfStep ρ w) (shelfEnd ρ w) (false, zero) x
   shelf-accepted x h =
       vigemin-exactly ρ one w hw m x h
-      ∙ ap₂ (λ (s t : Bool). s && t) (postmer-accepted ρ one w hw x m h) (holds-threads w x m ∙ threads-new w none true x [])
-      ∙ ap (λ (i : ℕ). accepts (postmerOk ρ w) (next w) (postmerEnd ρ w) i x && run w none true [] x []) (sym start)
+      ∙ ap₂ (λ (s t : Bool). s && t) (postmer-accepted ρ one w hw x m h) (holds-threads w x m ∙ threads-new w noHit true x [])
+      ∙ ap (λ (i : ℕ). accepts (postmerOk ρ w) (next w) (postmerEnd ρ w) i x && run w noHit true [] x []) (sym start)
       ∙ sym (shelf-run ρ w m false [] x)
       ∙ ap (λ (i : ℕ). accepts (shelfOk ρ w) (shelfStep ρ w) (shelfEnd ρ w) (false, i) x) start
     where
@@ -373,3 +373,26 @@ module _ (ρ : Ranking) (one : OneToOne ρ) (w : Word) (hw : Letters w) (m : 0 <
   -- the shelf is what the table walks through
   pub shelf-table : (k : ℕ) → shelf (ranked ρ) k w ≡ filter (accepts (shelfOk ρ w) (shelfStep ρ w) (shelfEnd ρ w) (false, zero)) (words k)
   shelf-table k = filter-cong _ _ k (λ x h. shelf-accepted x (h .1))
+
+-- once w was met, the ways to go on are those of a postmer
+pub ways-met : (ρ : Ranking) (w : Word) → 0 < length w → (i n : ℕ) → shelfWays ρ w (true, i) n ≡ postmerWays ρ w i n
+ways-met ρ w pos i zero = ap (λ (t : Bool). cond t 1 0) (sym (postmer-end ρ w pos i))
+ways-met ρ w pos i (suc n) =
+    ap (λ (g : ℕ → ℕ). total (map g letters)) (fun-ext (λ b. ap (λ (c : ℕ). cond (postmerOk ρ w i n b) c 0) (ways-met ρ w pos (next w i b) n)))
+
+-- an antemer does not hold w: from state m there is no way on
+pub antemer-stop : (ρ : Ranking) (w : Word) → 0 < length w → (n : ℕ) → antemerWays ρ w (length w) n ≡ 0
+antemer-stop ρ w pos zero =
+    ap (λ (t : Bool). cond (not t) 1 0)
+    (anyTo-there (length w) (λ l. ended (suc l)) (length w - 1) (omega arith) (ap ended (let e : suc (length w - 1) ≡ length w = omega arith in e) ∙ at-end))
+  where
+    ended : ℕ → Bool
+    ended l = matches w l (first w (length w)) && caught w (belowHit ρ w) true l (drop l w) w
+
+    at-end : ended (length w) ≡ true
+    at-end = ap₂ (λ (t : Bool) (u : Word). t && caught w (belowHit ρ w) true (length w) u w) (matches-all w (length w)) (drop-length w)
+antemer-stop ρ w pos (suc n) = ap (λ (g : ℕ → Bool). total (map (λ b. cond (g b) (antemerWays ρ w (next w (length w) b) n) 0) letters)) (fun-ext none-on)
+  where
+    none-on : (b : ℕ) → antemerOk ρ w (length w) n b ≡ false
+    none-on b =
+        ap (λ (t : Bool). not (t && true || anyTo (length w) (λ l. matches w l (first w (length w)) && belowHit ρ w l b (suc (n + length w))))) (matches-all w (length w))

@@ -11,34 +11,39 @@ use Rattle.definitions.specs.Words.{Word, same}
 
 -- ---- and, or
 
--- what a joined test says, and how it is met
+-- both of two tests: the first holds
 pub and-l : (a b : Bool) → (a && b) ≡ true → a ≡ true
 and-l true b e = refl
 and-l false b e = e
 
+-- and the second
 pub and-r : (a b : Bool) → (a && b) ≡ true → b ≡ true
 and-r true b e = e
 and-r false true e = refl
 and-r false false e = e
 
+-- both hold where each does
 pub and-i : (a b : Bool) → a ≡ true → b ≡ true → (a && b) ≡ true
 and-i true b p q = q
 and-i false b p q = p
 
+-- one of two tests holds where the first does
 pub or-l : (a b : Bool) → a ≡ true → (a || b) ≡ true
 or-l true b p = refl
 or-l false true p = refl
 or-l false false p = p
 
+-- or where the second does
 pub or-r : (a b : Bool) → b ≡ true → (a || b) ≡ true
 or-r true b p = refl
 or-r false b p = p
 
+-- and then one of them does
 pub or-cases : (a b : Bool) → (a || b) ≡ true → (a ≡ true) ⊎ (b ≡ true)
 or-cases true b e = inl refl
 or-cases false b e = inr e
 
--- the first two of three tests change places
+-- of three tests the first two change places
 pub and-left-comm : (a b c : Bool) → (a && (b && c)) ≡ (b && (a && c))
 and-left-comm true b c = refl
 and-left-comm false true c = refl
@@ -49,25 +54,27 @@ pub and-none : (a b : Bool) → b ≡ false → (a && b) ≡ false
 and-none true b e = e
 and-none false b e = refl
 
--- what each part implies, the whole does
+-- a first test that implies another
 pub and-mono : (a b c : Bool) → (a ≡ true → b ≡ true) → (a && c) ≡ true → (b && c) ≡ true
 and-mono true b c h e = and-i b c (h refl) e
 and-mono false b c h e = absurd (true≢false (sym e))
 
+-- two tests that imply two others
 pub or-mono : (a b c d : Bool) → (a ≡ true → c ≡ true) → (b ≡ true → d ≡ true) → (a || b) ≡ true → (c || d) ≡ true
 or-mono true b c d f g e = or-l c d (f refl)
 or-mono false b c d f g e = or-r c d (g e)
 
--- the contrary of a joined test
+-- not one of two: neither
 pub not-or : (a b : Bool) → not (a || b) ≡ (not a && not b)
 not-or true b = refl
 not-or false b = refl
 
+-- not both: one fails
 pub not-and : (a b : Bool) → not (a && b) ≡ (not a || not b)
 not-and true b = refl
 not-and false b = refl
 
--- beside a test only the words that pass it matter
+-- beside a test a second one matters only where the first holds
 pub and-cong : (a b c : Bool) → (a ≡ true → b ≡ c) → (a && b) ≡ (a && c)
 and-cong true b c h = h refl
 and-cong false b c h = refl
