@@ -223,10 +223,6 @@ windows-mem n x h =
     let c : s .0 + n ≤ length x = omega arith in
     (s .0, c, s .2 ∙ window-at n x (s .0) c)
 
--- a window of n letters has n letters
-pub windows-length : (n : ℕ) (x : Word) {v : Word} → List·Memᴰ v (windows n x) → length v ≡ n
-windows-length n x h = let s = windows-mem n x h in rw (s .2) (length-stretch n x (s .0) (s .1))
-
 -- a window of n letters of a word is an n-mer
 pub windows-mer : (n : ℕ) (x : Word) → Letters x → {v : Word} → List·Memᴰ v (windows n x) → Mer n v
 windows-mer n x k h = let s = windows-mem n x h in rw (s .2) (stretch-mer n x (s .0) (s .1) k)
