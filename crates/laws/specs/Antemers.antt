@@ -22,7 +22,8 @@ use Rattle.laws.specs.States.{matches-short}
 use Rattle.laws.specs.Acceptors.{belowHit}
 use Rattle.laws.specs.Tables.{through-fine, antemerOk, antemerEnd, antemerWays, antemer-accepted}
 use Rattle.laws.specs.Prefixes.{shared, sharing, sharingFrom, shared-le, shared-from, sharing-split, sharing-short, sharing-whole, completions}
-use Rattle.laws.specs.Rules.{Σ, banned, byPrefix, exists, uncaught, fine-banned}
+use Rattle.laws.specs.Rules.{Σ, banned, byPrefix, exists}
+use Rattle.laws.specs.RulesHold.{uncaught, fine-banned}
 use Rattle.laws.specs.ByPrefix.{banned-cong, sharingFrom-cong, byPrefix-free, accepted-rule}
 
 -- no antemer shares all m letters with w

@@ -16,7 +16,8 @@ use Rattle.laws.specs.Orders.{Ranking, OneToOne}
 use Rattle.laws.specs.States.{matches, first}
 use Rattle.laws.specs.Places.{anyTo-cong, anyTo-none, firstTo-none, firstTo-cong}
 use Rattle.laws.specs.Prefixes.{shared, sharing, sharingFrom, sharing-all}
-use Rattle.laws.specs.Rules.{isLess, isEqual, R, Σ, own, banned, restrained, T, byPrefix, exists, uncaught, sharing-rule}
+use Rattle.laws.specs.Rules.{isLess, isEqual, R, Σ, own, banned, restrained, T, byPrefix, exists}
+use Rattle.laws.specs.RulesHold.{uncaught, sharing-rule}
 
 -- one number for each entry that a test chooses
 pub total-chosen : (p : ℕ → Bool) (c : ℕ) (l : List ℕ) → total (map (λ b. cond (p b) c 0) l) ≡ length (filter p l) * c

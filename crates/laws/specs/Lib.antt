@@ -10,7 +10,8 @@
 -- Split                     the size is the sum of antemers times postmers
 -- States, Threads           the states of a word w; reading a word beside w with all m-mers at once
 -- Acceptors, Tables, Pages  postmers, antemers and shelf words accepted by states; their tables; walking a shelf
--- Prefixes, Rules           counts by shared prefix; document 01's R, Σ and T
+-- Prefixes                  counts by shared prefix
+-- Rules, RulesHold          document 01's R, Σ and T, and that its rule holds
 -- ByPrefix, Antemers, Postmers   each of document 01's rules, by name
 -- Print                     four errors of the printed rules, each with a computed case
 -- Refusals                  the refusal given is met, and the lowest where the numbers increase
@@ -32,6 +33,7 @@ pub mod Tables
 pub mod Pages
 pub mod Prefixes
 pub mod Rules
+pub mod RulesHold
 pub mod ByPrefix
 pub mod Antemers
 pub mod Postmers
