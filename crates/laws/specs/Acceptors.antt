@@ -72,18 +72,22 @@ module _ (ρ : Ranking) (one : OneToOne ρ) (w : Word) (final : Bool) where
 
 -- ---- the three cases
 
--- a thread that asks for no more than ties is caught where w itself is read
-pub caught-same : (w : Word) (l : ℕ) (u z : Word) → caught w (λ i b r. false) true l u z ≡ same (take (length u) z) u
+-- no letter hits: only ties are asked for
+abbrev pub noHit : ℕ → ℕ → ℕ → Bool
+noHit l b r = false
+
+-- a thread of ties is caught at its end where w itself is read
+pub caught-same : (w : Word) (l : ℕ) (u z : Word) → caught w noHit true l u z ≡ same (take (length u) z) u
 caught-same w l [] z = refl
 caught-same w l (a ∷ u) [] = refl
 caught-same w l (a ∷ u) (b ∷ z) = ap (λ (t : Bool). eqb b a && t) (caught-same w (suc l) u z)
 
 -- the words that hold w among their windows
-pub holds-threads : (w z : Word) → 0 < length w → any (λ v. same v w) (windows (length w) z) ≡ newCaught w (λ l b r. false) true z []
+pub holds-threads : (w z : Word) → 0 < length w → any (λ v. same v w) (windows (length w) z) ≡ newCaught w noHit true z []
 holds-threads w [] h = ap (any (λ v. same v w)) (windows-none (length w) [] h)
 holds-threads w (b ∷ z) h =
     any-put (λ v. same v w) (leb (length w) (suc (length z))) (take (length w) (b ∷ z)) (windows (length w) z)
-    ∙ ap₂ (λ (s t : Bool). s || t) (long-enough ∙ sym (ap (λ (y : Word). caught w (λ l c r. false) true zero w (b ∷ y)) (append-nil z) ∙ caught-same w zero w (b ∷ z)))
+    ∙ ap₂ (λ (s t : Bool). s || t) (long-enough ∙ sym (ap (λ (y : Word). caught w noHit true zero w (b ∷ y)) (append-nil z) ∙ caught-same w zero w (b ∷ z)))
     (holds-threads w z h)
   where
     long-enough : (leb (length w) (suc (length z)) && same (take (length w) (b ∷ z)) w) ≡ same (take (length w) (b ∷ z)) w
@@ -107,8 +111,7 @@ module _ (ρ : Ranking) (one : OneToOne ρ) (w : Word) (hw : Letters w) where
           ≡ not (caught w (belowHit ρ w) false zero w (b ∷ (z ++ [])))
       here =
           sym (ap not
-          (ap (λ (y : Word). caught w (belowHit ρ w) false zero w (b ∷ y)) (append-nil z) ∙ caught-value ρ one w false zero w (b ∷ z) refl hw hz (zero-add (length w))
-          )
+          (ap (λ (y : Word). caught w (belowHit ρ w) false zero w (b ∷ y)) (append-nil z) ∙ caught-value ρ one w false zero w (b ∷ z) refl hw hz (zero-add (length w)))
           ∙ not-and (leb (length w) (suc (length z))) (below (ranked ρ) w (take (length w) (b ∷ z))))
 
   -- the antemers: no thread that begins in y is caught, below w or equal to it, in y followed by w

@@ -7,7 +7,7 @@ use mathlib.Core.List.{List, [], _∷_, map}
 use mathlib.Core.Path.{_≡_, refl, sym, ap, ap₂, fun-ext, _∙_}
 use native.Mathlib.Nat.{add-zero}
 use native.Mathlib.Omega.{arith}
-use borrow.Author.Tests.{lt-ltb, le-ltb, le-leb, lt-leb, eqb-true}
+use borrow.Author.Tests.{le-ltb, le-leb, lt-leb, eqb-true}
 use lib.Dec.{leb, eqb}
 use lib.ListN.{length, getD, take, drop}
 use lib.Seq.{take-length, length-take-le}
@@ -21,7 +21,7 @@ use Rattle.laws.specs.Counting.{count, count-cong, count-none, count-eve
 use Rattle.laws.specs.Orders.{Ranking, OneToOne, ranked}
 use Rattle.laws.specs.States.{matches, first}
 use Rattle.laws.specs.Tables.{postmer-accepted}
-use Rattle.laws.specs.Prefixes.{sharing, sharingFrom, goesOn, stops, shared-from, shared-is, sharing-split, sharing-past, sharing-whole}
+use Rattle.laws.specs.Prefixes.{sharing, sharingFrom, goesOn, goesOn-at, stops, shared-from, shared-is, sharing-split, sharing-past, sharing-whole}
 use Rattle.laws.specs.Rules.{Σ, byPrefix}
 use Rattle.laws.specs.ByPrefix.{total-chosen, byPrefix-free, accepted-rule}
 
@@ -33,7 +33,7 @@ count-constant false n = count-none n
 -- three letters do not go on with w
 three : (w : Word) (i : ℕ) → Letters w → i < length w → length (filter (λ b. not (goesOn w i b)) letters) ≡ 3
 three w i hw h =
-    ap (λ (t : Bool). length (filter (λ b. not (t && eqb b (getD w i 0))) letters)) (lt-ltb i (length w) h)
+    ap (λ (p : ℕ → Bool). length (filter (λ b. not (p b)) letters)) (fun-ext (λ b. goesOn-at w i b h))
     ∙ eqb-true (length (filter (λ b. not (eqb b (getD w i 0))) letters)) 3
     (each-letter (λ a. eqb (length (filter (λ b. not (eqb b a)) letters)) 3) refl (letter-lt w i hw))
 
@@ -94,27 +94,26 @@ module _ (f : Form) (w : Word) where
   pub postmers-begun : (a : ℕ) → postmers f w a ≡ sharing w (postmer f w) (length w) (length w + a)
   postmers-begun a = postmers-from a ∙ sym (sharing-last (length w + a))
 
-module _ (ρ : Ranking) (one : OneToOne ρ) (w : Word) (hw : Letters w) where
-  module _ (pos : 0 < length w) where
-    -- from length m on, by the letter that follows the shared ones: the m-mer that starts at j counts only if it exists
-    pub postmers-rule : (i n : ℕ) → i ≤ length w → i < n → length w ≤ n
-        → sharing w (postmer (ranked ρ) w) i n ≡ byPrefix ρ w (λ j. leb (length w + j) (suc n)) (sharingFrom w (postmer (ranked ρ) w)) i n
-    postmers-rule i n h k long =
-        accepted-rule ρ one w hw false [] (postmer (ranked ρ) w) (λ z j. postmer-accepted ρ one w hw z pos j) (λ j. leb (length w + j) (suc n)) i n h k
-        (and-false (matches w (length w) (first w i))) (omega arith) (λ q j. ap (λ (l : ℕ). leb (length w + suc (suc q)) (suc l)) (add-zero n))
+module _ (ρ : Ranking) (one : OneToOne ρ) (w : Word) (hw : Letters w) (pos : 0 < length w) where
+  -- from length m on, by the letter that follows the shared ones: the m-mer that starts at j counts only if it exists
+  pub postmers-rule : (i n : ℕ) → i ≤ length w → i < n → length w ≤ n
+      → sharing w (postmer (ranked ρ) w) i n ≡ byPrefix ρ w (λ j. leb (length w + j) (suc n)) (sharingFrom w (postmer (ranked ρ) w)) i n
+  postmers-rule i n h k long =
+      accepted-rule ρ one w hw false [] (postmer (ranked ρ) w) (λ z j. postmer-accepted ρ one w hw z pos j) (λ j. leb (length w + j) (suc n)) i n h k
+      (and-false (matches w (length w) (first w i))) (omega arith) (λ q j. ap (λ (l : ℕ). leb (length w + suc (suc q)) (suc l)) (add-zero n))
 
-    -- of length m, with i below m: a letter of Σ(i+1), and then any letters
-    pub postmers-at : (i : ℕ) → i < length w
-        → sharing w (postmer (ranked ρ) w) i (length w) ≡ length (filter (Σ ρ w (suc i)) letters) * 4 ^ (length w - suc i)
-    postmers-at i h =
-        postmers-rule i (length w) (omega arith) h (omega arith)
-        ∙ byPrefix-free ρ w (λ j. leb (length w + j) (suc (length w))) i (postmer (ranked ρ) w) (length w) (length w - suc i)
-        (λ q k. lt-leb (length w + suc (suc q)) (suc (length w)) (omega arith)) refl
-        ∙ ap (λ (c : ℕ). length (filter (Σ ρ w (suc i)) letters) * c) (postmers-any (ranked ρ) w (length w - suc i) (omega arith))
+  -- of length m, with i below m: a letter of Σ(i+1), and then any letters
+  pub postmers-at : (i : ℕ) → i < length w
+      → sharing w (postmer (ranked ρ) w) i (length w) ≡ length (filter (Σ ρ w (suc i)) letters) * 4 ^ (length w - suc i)
+  postmers-at i h =
+      postmers-rule i (length w) (omega arith) h (omega arith)
+      ∙ byPrefix-free ρ w (λ j. leb (length w + j) (suc (length w))) i (postmer (ranked ρ) w) (length w) (length w - suc i)
+      (λ q k. lt-leb (length w + suc (suc q)) (suc (length w)) (omega arith)) refl
+      ∙ ap (λ (c : ℕ). length (filter (Σ ρ w (suc i)) letters) * c) (postmers-any (ranked ρ) w (length w - suc i) (omega arith))
 
-    -- those that share no letter: a letter of Σ1, and a postmer one shorter
-    pub postmers-none-shared : (n : ℕ) → length w ≤ suc n
-        → sharing w (postmer (ranked ρ) w) 0 (suc n) ≡ length (filter (Σ ρ w 1) letters) * count (postmer (ranked ρ) w) n
-    postmers-none-shared n h =
-        postmers-rule 0 (suc n) (omega arith) (omega arith) h
-        ∙ byPrefix-free ρ w (λ j. leb (length w + j) (suc (suc n))) 0 (postmer (ranked ρ) w) (suc n) n (λ q k. absurd (omega arith)) (omega arith)
+  -- those that share no letter: a letter of Σ1, and a postmer one shorter
+  pub postmers-none-shared : (n : ℕ) → length w ≤ suc n
+      → sharing w (postmer (ranked ρ) w) 0 (suc n) ≡ length (filter (Σ ρ w 1) letters) * count (postmer (ranked ρ) w) n
+  postmers-none-shared n h =
+      postmers-rule 0 (suc n) (omega arith) (omega arith) h
+      ∙ byPrefix-free ρ w (λ j. leb (length w + j) (suc (suc n))) 0 (postmer (ranked ρ) w) (suc n) n (λ q k. absurd (omega arith)) (omega arith)

@@ -174,20 +174,20 @@ module _ (w : Word) (p : Word → Bool) where
 
 -- ---- by states
 
-module _ (w : Word) (hw : Letters w) (ok : ℕ → ℕ → ℕ → Bool) (end : ℕ → Bool) where
-  -- whether the first i letters of w are allowed one after the other, with n letters to follow
-  abbrev pub clean : ℕ → ℕ → Bool
-  clean i n = through (next w) ok zero (take i w) n
+-- whether the first i letters of w are allowed one after the other, with n letters to follow
+abbrev pub clean : Word → (ℕ → ℕ → ℕ → Bool) → ℕ → ℕ → Bool
+clean w ok i n = through (next w) ok zero (take i w) n
 
+module _ (w : Word) (hw : Letters w) (ok : ℕ → ℕ → ℕ → Bool) (end : ℕ → Bool) where
   -- those that share at least i letters are the completions of state i
   pub completions : (i n : ℕ) → i ≤ length w
-      → sharingFrom w (accepts ok (next w) end zero) i (i + n) ≡ cond (clean i n) (ways ok (next w) end i n) 0
+      → sharingFrom w (accepts ok (next w) end zero) i (i + n) ≡ cond (clean w ok i n) (ways ok (next w) end i n) 0
   completions i n h =
       count-cong _ (λ z. same (take i z) (take i w) && accepts ok (next w) end zero z) (i + n)
       (λ z k. ap (λ (t : Bool). accepts ok (next w) end zero z && t) (shared-from w z i h) ∙ and-comm (accepts ok (next w) end zero z) (same (take i z) (take i w)))
       ∙ ap (λ (l : ℕ). count (λ z. same (take l z) (take i w) && accepts ok (next w) end zero z) (l + n)) (sym (length-take-le i w h))
       ∙ count-begun ok (next w) end zero (take i w) n (letters-take i w hw)
-      ∙ ap (λ (s : ℕ). cond (clean i n) (ways ok (next w) end s n) 0) (after-prefix w i h)
+      ∙ ap (λ (s : ℕ). cond (clean w ok i n) (ways ok (next w) end s n) 0) (after-prefix w i h)
 
   -- one letter after i letters of w
   branch-count : (i n b : ℕ)
@@ -204,13 +204,13 @@ module _ (w : Word) (hw : Letters w) (ok : ℕ → ℕ → ℕ → Bool) (end : 
   -- those that share exactly i letters, by the letter that follows: it does not go on with w, is allowed, and leads to its state
   pub prefix-rule : (i n : ℕ) → i ≤ length w
       → sharing w (accepts ok (next w) end zero) i (i + suc n)
-      ≡ cond (clean i (suc n)) (total (map (λ b. cond (not (goesOn w i b) && ok i n b) (ways ok (next w) end (next w i b) n) 0) letters)) 0
+      ≡ cond (clean w ok i (suc n)) (total (map (λ b. cond (not (goesOn w i b) && ok i n b) (ways ok (next w) end (next w i b) n) 0) letters)) 0
   prefix-rule i n h =
       count-cong _ (λ z. same (take i z) (take i w) && (accepts ok (next w) end zero z && stops w i (drop i z))) (i + suc n)
       (λ z k. ap (λ (t : Bool). accepts ok (next w) end zero z && t) (shared-is w z i h)
       ∙ and-left-comm (accepts ok (next w) end zero z) (same (take i z) (take i w)) (stops w i (drop i z)))
       ∙ ap (λ (l : ℕ). count (λ z. same (take l z) (take i w) && (accepts ok (next w) end zero z && stops w i (drop l z))) (l + suc n)) (sym (length-take-le i w h))
       ∙ count-begun-by ok (next w) end (stops w i) zero (take i w) (suc n) (letters-take i w hw)
-      ∙ ap (λ (s : ℕ). cond (clean i (suc n)) (count (λ v. accepts ok (next w) end s v && stops w i v) (suc n)) 0) (after-prefix w i h)
-      ∙ ap (λ (c : ℕ). cond (clean i (suc n)) c 0)
+      ∙ ap (λ (s : ℕ). cond (clean w ok i (suc n)) (count (λ v. accepts ok (next w) end s v && stops w i v) (suc n)) 0) (after-prefix w i h)
+      ∙ ap (λ (c : ℕ). cond (clean w ok i (suc n)) c 0)
       (count-split (λ v. accepts ok (next w) end i v && stops w i v) n ∙ ap (λ (g : ℕ → ℕ). total (map g letters)) (fun-ext (branch-count i n)))

@@ -75,7 +75,7 @@ total-last f (suc n) = ap (λ (r : ℕ). f zero + r) (total-last (λ i. f (suc i
 
 -- ---- where w first stands
 
--- beside a test on the right only the words that pass it matter
+-- before a test a first one matters only where the second holds
 and-cong-right : (a b c : Bool) → (c ≡ true → a ≡ b) → (a && c) ≡ (b && c)
 and-cong-right a b c h = and-comm a c ∙ and-cong c a b h ∙ and-comm c b
 

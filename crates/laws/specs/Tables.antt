@@ -1,5 +1,5 @@
 -- The acceptors by states: postmers, antemers and the words of a shelf are accepted letter by letter from a state of w alone, so each
--- count is a table over (state, letters left), and the words of a shelf are found by walking with the table.
+-- count is a table over (state, letters left).
 -- Assumes nothing.
 use Prim.Native.Nat.{ℕ, zero, suc, _+_, _-_, _^_, _≤_, _<_}
 use mathlib.Core.Bool.{Bool, true, false, cond, not, _&&_, _||_, and-true, and-false, or-false, and-assoc, and-comm, or-assoc}
@@ -22,7 +22,7 @@ use Rattle.laws.specs.Orders.{Ranking, OneToOne, ranked, vigemin-exactly
 use Rattle.laws.specs.States.{matches, first, state, next, longest-matches, longest-max, longest-le, matches-first, matches-all, matches-short, state-matches, state-step, state-first, next-le}
 use Rattle.laws.specs.Places.{anyTo, anyTo-there, anyTo-cong, anyTo-none, anyTo-last, anyTo-mono}
 use Rattle.laws.specs.Threads.{caught, oldCaught, newCaught, bad, run, threads-new}
-use Rattle.laws.specs.Acceptors.{belowHit, postmer-threads, antemer-threads, holds-threads}
+use Rattle.laws.specs.Acceptors.{belowHit, noHit, postmer-threads, antemer-threads, holds-threads}
 
 -- ---- beginnings
 
@@ -36,6 +36,13 @@ module _ {S : Type 0} (step : S → ℕ → S) where
   abbrev pub through : (S → ℕ → ℕ → Bool) → S → Word → ℕ → Bool
   through ok s [] n = true
   through ok s (b ∷ u) n = ok s (length u + n) b && through ok (step s b) u n
+
+  -- one letter more is allowed from the state after the others
+  pub through-last : (ok : S → ℕ → ℕ → Bool) (s : S) (u : Word) (b n : ℕ) → through ok s (u ++ (b ∷ [])) n ≡ (through ok s u (suc n) && ok (after s u) n b)
+  through-last ok s [] b n = and-true (ok s (zero + n) b) ∙ ap (λ (i : ℕ). ok s i b) (zero-add n)
+  through-last ok s (a ∷ u) b n =
+      ap₂ (λ (i : ℕ) (t : Bool). ok s i a && t) (let e : length (u ++ (b ∷ [])) ≡ length u + 1 = length-append u (b ∷ []) in omega arith) (through-last ok (step s a) u b n)
+      ∙ sym (and-assoc (ok s (length u + suc n) a) (through ok (step s a) u (suc n)) (ok (after (step s a) u) n b))
 
 module _ {S : Type 0} (ok : S → ℕ → ℕ → Bool) (step : S → ℕ → S) (end : S → Bool) where
   -- a word is accepted where its beginning is allowed and the rest is accepted from the state after it
@@ -74,13 +81,6 @@ module _ {S : Type 0} (ok : S → ℕ → ℕ → Bool) (step : S → ℕ → S)
       ∙ count-begun-by (λ v. true) s u n h
       ∙ ap (λ (c : ℕ). cond (through step ok s u n) c 0)
       (count-cong _ (accepts ok step end (after step s u)) n (λ v k. and-true (accepts ok step end (after step s u) v)) ∙ sym (ways-count ok step end (after step s u) n))
-
-  -- one letter more is allowed from the state after the others
-  pub through-last : (s : S) (u : Word) (b n : ℕ) → through step ok s (u ++ (b ∷ [])) n ≡ (through step ok s u (suc n) && ok (after step s u) n b)
-  through-last s [] b n = and-true (ok s (zero + n) b) ∙ ap (λ (i : ℕ). ok s i b) (zero-add n)
-  through-last s (a ∷ u) b n =
-      ap₂ (λ (i : ℕ) (t : Bool). ok s i a && t) (let e : length (u ++ (b ∷ [])) ≡ length u + 1 = length-append u (b ∷ []) in omega arith) (through-last (step s a) u b n)
-      ∙ sym (and-assoc (ok s (length u + suc n) a) (through step ok (step s a) u (suc n)) (ok (after step (step s a) u) n b))
 
 -- w's own letter leads from a state to the next one
 pub next-first : (w : Word) (i : ℕ) → i < length w → next w i (getD w i 0) ≡ suc i
@@ -182,7 +182,7 @@ module _ (w : Word) (hit : ℕ → ℕ → ℕ → Bool) (final : Bool) (t : Wor
   through-fine zero n h = refl
   through-fine (suc i) n h =
       ap (λ (u : Word). through (next w) fineAt zero u n) (take-suc w i 0 h)
-      ∙ through-last fineAt (next w) doneAt zero (take i w) (getD w i 0) n
+      ∙ through-last (next w) fineAt zero (take i w) (getD w i 0) n
       ∙ ap₂ (λ (x : Bool) (s : ℕ). x && fineAt s n (getD w i 0)) (through-fine i (suc n) (omega arith)) (after-prefix w i (omega arith))
       ∙ and-comm (allFine (first w i) (suc n)) (fine (first w i) n (getD w i 0))
 
@@ -324,10 +324,6 @@ state-full w past =
     test-ext (matches w (length w) past) (eqb (state w past) (length w))
     (λ e. eq-eqb (state w past) (length w) (omega (arith, longest-max w (length w) past (length w) (omega arith) e, longest-le w (length w) past)))
     (λ e. ap (λ (i : ℕ). matches w i past) (sym (eqb-true (state w past) (length w) e)) ∙ longest-matches w (length w) past)
-
--- no letter is asked for but those of w
-abbrev noHit : ℕ → ℕ → ℕ → Bool
-noHit l b r = false
 
 bad-noHit : (w past : Word) (r b : ℕ) → bad w noHit true past r b ≡ matches w (length w) past
 bad-noHit w past r b =
