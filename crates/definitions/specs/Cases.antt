@@ -1,4 +1,5 @@
--- The table of document 01: cases W1 to W12 as data, a test of one case against the definitions, and one claim of the whole table.
+-- The table of document 01: cases W1 to W12 as data, a test of one case against the definitions, and one claim of the whole table. Then
+-- what the table does not ask: the other operations, refusals, bounds, and the order of a page.
 -- Assumes nothing.
 use Prim.Native.Nat.{ℕ, _-_}
 use mathlib.Core.Bool.{Bool, true, _&&_}
@@ -8,7 +9,9 @@ use lib.Dec.{eqb}
 use lib.ListN.{length, replicate}
 use Rattle.definitions.specs.Lists.{all, tabulate}
 use Rattle.definitions.specs.Words.{words, same, val, spelled, text}
-use Rattle.definitions.specs.Outcomes.{sizeOutcome, worksheetOutcome, pageOutcome, scanOutcome, sizeAnswer, worksheetAnswer, pageAnswer, scanAnswer}
+use Rattle.definitions.specs.Refusals.{refusal, badSequence}
+use Rattle.definitions.specs.Outcomes.{packOutcome, unpackOutcome, vigeminOutcome, sizeOutcome, worksheetOutcome, counterOutcome, pageOutcome, scanOutcome, foreignSizeOutcome, foreignScanOutcome}
+use Rattle.definitions.specs.Outcomes.{counterGrounds, packAnswer, unpackAnswer, vigeminAnswer, sizeAnswer, worksheetAnswer, counterAnswer, pageAnswer, scanAnswer}
 
 -- the four capitals as bytes, so that a text can be read
 abbrev A : ℕ
@@ -114,3 +117,70 @@ table =
 pub table-holds : all holds table ≡ true
 unfolding holds sizeOutcome worksheetOutcome pageOutcome scanOutcome sizeAnswer worksheetAnswer pageAnswer scanAnswer
 table-holds = refl
+
+-- ---- what the table does not ask
+
+-- ACGT is 27, and 31 times T is the greatest word; a text of 0 or of 32 bytes is refused by 1 before its bytes are looked at; of the
+-- bytes that are no capital letter, here a and N, the first one's place is given
+pub pack-cases : (packOutcome (A ∷ C ∷ G ∷ T ∷ []) ≡ record { refusal = 0; place = 0; word = 27 })
+    × (packOutcome (replicate 31 T) ≡ record { refusal = 0; place = 0; word = 4611686018427387903 })
+    × (packOutcome [] ≡ record { refusal = 1; place = 0; word = 0 })
+    × (packOutcome (replicate 32 78) ≡ record { refusal = 1; place = 0; word = 0 })
+    × (packOutcome (A ∷ C ∷ 97 ∷ 78 ∷ []) ≡ record { refusal = 6; place = 2; word = 0 })
+unfolding packOutcome packAnswer
+pack-cases = (refl, refl, refl, refl, refl)
+
+-- 27 is ACGT, at the front of its room; 256 has no four letters, which is told before the room; and a room of three is too small
+pub unpack-cases : (unpackOutcome 27 4 (9 ∷ 9 ∷ 9 ∷ 9 ∷ 9 ∷ []) ≡ record { refusal = 0; written = 4; room = A ∷ C ∷ G ∷ T ∷ 9 ∷ [] })
+    × (unpackOutcome 256 4 (9 ∷ []) ≡ record { refusal = 4; written = 0; room = 9 ∷ [] })
+    × (unpackOutcome 27 4 (9 ∷ 9 ∷ 9 ∷ []) ≡ record { refusal = 7; written = 0; room = 9 ∷ 9 ∷ 9 ∷ [] })
+unfolding unpackOutcome unpackAnswer
+unpack-cases = (refl, refl, refl)
+
+-- windows of W9 and W10: GTAC under key AA has AC at 2, ACGT under TT has GT at 2; and a key too large is told before a k-mer too large
+pub vigemin-cases : (vigeminOutcome 4 2 0 177 ≡ record { refusal = 0; word = 1; position = 2 })
+    × (vigeminOutcome 4 2 15 27 ≡ record { refusal = 0; word = 11; position = 2 })
+    × (vigeminOutcome 4 2 16 256 ≡ record { refusal = 3; word = 0; position = 0 })
+    × (vigeminOutcome 4 2 15 256 ≡ record { refusal = 4; word = 0; position = 0 })
+unfolding vigeminOutcome vigeminAnswer
+vigemin-cases = (refl, refl, refl, refl)
+
+-- a refused worksheet is all zeros
+pub worksheet-refused : worksheetOutcome 3 2 16 0 ≡ record { refusal = 3; antemers = replicate 31 0; postmers = replicate 31 0 }
+unfolding worksheetOutcome worksheetAnswer
+worksheet-refused = refl
+
+-- the last rows of antemers of W2 and W3; k − m = 10 is served and 11 refused, after 3
+pub counter-cases : (counterOutcome 3 2 0 10 ≡ record { refusal = 0; count = 1 }) × (counterOutcome 4 3 48 0 ≡ record { refusal = 0; count = 0 })
+    × (refusal (counterGrounds 11 1 0 0) ≡ 0) × (counterOutcome 12 1 0 0 ≡ record { refusal = 9; count = 0 })
+    × (counterOutcome 12 1 4 0 ≡ record { refusal = 3; count = 0 })
+unfolding counterOutcome counterAnswer
+counter-cases = (refl, refl, refl, refl, refl)
+
+-- k = 2, key T, word T: the words with a T, in the order of the words themselves. Keyed, TA would come first
+pub page-in-order : pageOutcome 2 1 3 3 0 (replicate 8 9) ≡ record { refusal = 0; written = 7; room = 3 ∷ 7 ∷ 11 ∷ 12 ∷ 13 ∷ 14 ∷ 15 ∷ 9 ∷ [] }
+unfolding pageOutcome pageAnswer
+page-in-order = refl
+
+-- ACG has no window of four letters; ACGT has one, which a room of none does not take; a byte that is no letter is told first, with its
+-- place; and 65,536 letters are served, one more is not
+pub scan-cases : (scanOutcome 4 2 0 (A ∷ C ∷ G ∷ []) (9 ∷ []) ≡ record { refusal = 0; place = 0; windows = 0; room = 9 ∷ [] })
+    × (scanOutcome 4 2 0 (A ∷ C ∷ G ∷ T ∷ []) [] ≡ record { refusal = 7; place = 0; windows = 0; room = [] })
+    × (scanOutcome 4 2 0 (A ∷ C ∷ 78 ∷ T ∷ []) [] ≡ record { refusal = 6; place = 2; windows = 0; room = [] })
+    × (refusal (badSequence 65536 ∷ []) ≡ 0) × (refusal (badSequence 65537 ∷ []) ≡ 5)
+unfolding scanOutcome scanAnswer
+scan-cases = (refl, refl, refl, refl, refl)
+
+-- W2's size; and refusal 2, which is 2^63 + 65,536 · 2
+pub foreign-size-cases : (foreignSizeOutcome 3 2 0 10 ≡ 3) × (foreignSizeOutcome 3 4 0 0 ≡ 9223372036854906880)
+unfolding foreignSizeOutcome sizeOutcome sizeAnswer
+foreign-size-cases = (refl, refl)
+
+-- the first two windows of W9 take eight bytes, high first, and the ninth stays; refusal 6 with place 3, and 7 with no place, are
+-- 2^63 + 65,536 · 6 + 3 and 2^63 + 65,536 · 7
+pub foreign-scan-cases : (foreignScanOutcome 4 2 0 (A ∷ C ∷ G ∷ T ∷ A ∷ []) (replicate 9 9)
+    ≡ record { answer = 2; room = 0 ∷ 0 ∷ 0 ∷ 0 ∷ 0 ∷ 0 ∷ 0 ∷ 1 ∷ 9 ∷ [] })
+    × (foreignScanOutcome 4 2 0 (A ∷ C ∷ G ∷ 78 ∷ A ∷ []) (9 ∷ []) ≡ record { answer = 9223372036855169027; room = 9 ∷ [] })
+    × (foreignScanOutcome 4 2 0 (A ∷ C ∷ G ∷ T ∷ A ∷ []) (replicate 7 9) ≡ record { answer = 9223372036855234560; room = replicate 7 9 })
+unfolding foreignScanOutcome scanAnswer
+foreign-scan-cases = (refl, refl, refl)

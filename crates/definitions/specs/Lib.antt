@@ -31,7 +31,7 @@
 -- Outcomes      of each operation, from all its inputs to its answer and the last contents of its room: packOutcome, unpackOutcome,
 --               vigeminOutcome, sizeOutcome, worksheetOutcome, counterOutcome, pageOutcome, scanOutcome, foreignSizeOutcome,
 --               foreignScanOutcome
--- Cases         W1 to W12 of document 01, proved under one claim
+-- Cases         W1 to W12 of document 01, proved under one claim; then cases of what these do not ask
 pub mod Lists
 pub mod Words
 pub mod Vigemins

@@ -124,6 +124,10 @@ module _ (ρ : Ranking) (one : OneToOne ρ) (w : Word) (hw : Letters w) where
 
 -- ---- the letter that follows a shared prefix
 
+-- at state i the letter b, with r letters and t behind it, hits the m-mer of which l letters are tied
+abbrev hitAt : Ranking → Word → Word → ℕ → ℕ → ℕ → ℕ → Bool
+hitAt ρ w t i r b l = matches w l (first w i) && belowHit ρ w l b (suc (r + length t))
+
 module _ (ρ : Ranking) (one : OneToOne ρ) (w : Word) (hw : Letters w) where
   -- at a place of w a letter that is not w's and does not rank below it ranks above it
   rank-above : (l b : ℕ) → l < length w → b < 4 → Σ ρ w (suc l) b ≡ (not (goesOn w l b) && not (ltb (ρ l b) (ρ l (getD w l 0))))
@@ -193,39 +197,35 @@ module _ (ρ : Ranking) (one : OneToOne ρ) (w : Word) (hw : Letters w) where
           go false p = later l (omega (arith, leb-false (suc l) i p)) m (leb l i) refl
 
   module _ (final : Bool) (t : Word) where
-    -- a hit at the place of one m-mer
-    abbrev hitAt : ℕ → ℕ → ℕ → ℕ → Bool
-    hitAt i r b l = matches w l (first w i) && belowHit ρ w l b (suc (r + length t))
-
     -- at state i the letter b hits the tied m-mers that began after the first place, or the one that began there
     bad-places : (i r b : ℕ) → i ≤ length w → (matches w (length w) (first w i) && final) ≡ false → length w ≤ i + suc (r + length t)
         → bad w (belowHit ρ w) final (first w i) (suc (r + length t)) b
-        ≡ (anyTo i (hitAt i r b) || (ltb i (length w) && ltb (ρ i b) (ρ i (getD w i 0))))
+        ≡ (anyTo i (hitAt ρ w t i r b) || (ltb i (length w) && ltb (ρ i b) (ρ i (getD w i 0))))
     bad-places i r b h off long =
-        ap (λ (x : Bool). x || anyTo (length w) (hitAt i r b)) off ∙ go (ltb i (length w)) refl
+        ap (λ (x : Bool). x || anyTo (length w) (hitAt ρ w t i r b)) off ∙ go (ltb i (length w)) refl
       where
-        past : (l : ℕ) → i < l → hitAt i r b l ≡ false
+        past : (l : ℕ) → i < l → hitAt ρ w t i r b l ≡ false
         past l k = ap (λ (x : Bool). x && belowHit ρ w l b (suc (r + length t))) (matches-short w i l k)
 
-        here : hitAt i r b i ≡ ltb (ρ i b) (ρ i (getD w i 0))
+        here : hitAt ρ w t i r b i ≡ ltb (ρ i b) (ρ i (getD w i 0))
         here = ap₂ (λ (x y : Bool). x && (y && ltb (ρ i b) (ρ i (getD w i 0)))) (matches-all w i) (le-leb (length w) (i + suc (r + length t)) long)
 
-        go : (d : Bool) → ltb i (length w) ≡ d → anyTo (length w) (hitAt i r b) ≡ (anyTo i (hitAt i r b) || (d && ltb (ρ i b) (ρ i (getD w i 0))))
+        go : (d : Bool) → ltb i (length w) ≡ d → anyTo (length w) (hitAt ρ w t i r b) ≡ (anyTo i (hitAt ρ w t i r b) || (d && ltb (ρ i b) (ρ i (getD w i 0))))
         go true q =
-            anyTo-stop (suc i) (length w) (hitAt i r b) (ltb-true i (length w) q) (λ l k j. past l k)
-            ∙ anyTo-last i (hitAt i r b) ∙ ap (λ (x : Bool). anyTo i (hitAt i r b) || x) here
+            anyTo-stop (suc i) (length w) (hitAt ρ w t i r b) (ltb-true i (length w) q) (λ l k j. past l k)
+            ∙ anyTo-last i (hitAt ρ w t i r b) ∙ ap (λ (x : Bool). anyTo i (hitAt ρ w t i r b) || x) here
         go false q =
-            anyTo-stop i (length w) (hitAt i r b) h (λ l k j. absurd (omega (arith, ltb-false i (length w) q)))
-            ∙ sym (or-false (anyTo i (hitAt i r b)))
+            anyTo-stop i (length w) (hitAt ρ w t i r b) h (λ l k j. absurd (omega (arith, ltb-false i (length w) q)))
+            ∙ sym (or-false (anyTo i (hitAt ρ w t i r b)))
 
     -- the same, by the place j at which each m-mer starts
     hits-starts : (i r b : ℕ) → i ≤ length w → b < 4
-        → anyTo i (hitAt i r b)
+        → anyTo i (hitAt ρ w t i r b)
         ≡ anyTo i (λ q. exists w t (i + suc r) (suc (suc q)) && isEqual (R ρ w i (suc (suc q)))
         && not (Σ ρ w (i - q) b || own w (i - q) b))
-    hits-starts i r b h hb = sym (anyTo-down i (hitAt i r b)) ∙ anyTo-cong i each
+    hits-starts i r b h hb = sym (anyTo-down i (hitAt ρ w t i r b)) ∙ anyTo-cong i each
       where
-        at : (q l : ℕ) → suc q + l ≡ i → hitAt i r b l
+        at : (q l : ℕ) → suc q + l ≡ i → hitAt ρ w t i r b l
             ≡ (exists w t (i + suc r) (suc (suc q)) && isEqual (R ρ w i (suc (suc q))) && not (Σ ρ w (suc l) b || own w (suc l) b))
         at q l e =
             and-left-comm (matches w l (first w i)) (leb (length w) (l + suc (r + length t))) (ltb (ρ l b) (ρ l (getD w l 0)))
@@ -236,7 +236,7 @@ module _ (ρ : Ranking) (one : OneToOne ρ) (w : Word) (hw : Letters w) where
             ∙ ap (λ (x : Bool). exists w t (i + suc r) (suc (suc q)) && isEqual (R ρ w i (suc (suc q))) && x)
             (sym (Bool·not-not (ltb (ρ l b) (ρ l (getD w l 0)))) ∙ ap not (sym (rank-not-below l b (omega arith) hb)))
 
-        each : (q : ℕ) → q < i → hitAt i r b (i - suc q)
+        each : (q : ℕ) → q < i → hitAt ρ w t i r b (i - suc q)
             ≡ (exists w t (i + suc r) (suc (suc q)) && isEqual (R ρ w i (suc (suc q))) && not (Σ ρ w (i - q) b || own w (i - q) b))
         each q k =
             at q (i - suc q) (omega arith)
@@ -249,7 +249,7 @@ module _ (ρ : Ranking) (one : OneToOne ρ) (w : Word) (hw : Letters w) where
         ≡ restrained ρ w (exists w t (i + suc r)) i b
     fine-restrained i r b h hb off long =
         ap (λ (x : Bool). not (goesOn w i b) && not x) (bad-places i r b h off long)
-        ∙ gather (goesOn w i b) (anyTo i (hitAt i r b)) (ltb i (length w) && ltb (ρ i b) (ρ i (getD w i 0)))
+        ∙ gather (goesOn w i b) (anyTo i (hitAt ρ w t i r b)) (ltb i (length w) && ltb (ρ i b) (ρ i (getD w i 0)))
         ∙ ap₂ (λ (x y : Bool). x && not y) (sym at-end) (hits-starts i r b h hb)
       where
         gather : (g a u : Bool) → (not g && not (a || u)) ≡ (not g && not u && not a)
@@ -292,11 +292,11 @@ module _ (ρ : Ranking) (one : OneToOne ρ) (w : Word) (hw : Letters w) (final :
 
   -- where the letters up to i do not ban, those up to i+1 do exactly if w's own next letter hits
   row-hits : (i r : ℕ) → i < length w → banned ρ w (exists w t (i + suc r)) i ≡ false
-      → anyTo i (λ q. exists w t (i + suc r) (suc (suc q)) && isLess (R ρ w (suc i) (suc (suc q)))) ≡ anyTo i (hitAt ρ one w hw final t i r (getD w i 0))
+      → anyTo i (λ q. exists w t (i + suc r) (suc (suc q)) && isLess (R ρ w (suc i) (suc (suc q)))) ≡ anyTo i (hitAt ρ w t i r (getD w i 0))
   row-hits zero r h free = refl
   row-hits (suc i) r h free =
       anyTo-cong (suc i) (λ q k. at q (suc i - suc q) (omega arith) (unbanned i (suc i + suc r) q k (omega arith) free))
-      ∙ anyTo-down (suc i) (hitAt ρ one w hw final t (suc i) r (getD w (suc i) 0))
+      ∙ anyTo-down (suc i) (hitAt ρ w t (suc i) r (getD w (suc i) 0))
     where
       alone : (e x y l : Bool) → (e && x) ≡ false → (e && (x || (y && l))) ≡ (y && (e && l))
       alone true true y l p = absurd (contrary true refl p)
@@ -305,7 +305,7 @@ module _ (ρ : Ranking) (one : OneToOne ρ) (w : Word) (hw : Letters w) (final :
       alone false x false l p = refl
 
       at : (q l : ℕ) → suc q + l ≡ suc i → (exists w t (suc i + suc r) (suc (suc q)) && isLess (R ρ w (suc i) (suc (suc q)))) ≡ false
-          → (exists w t (suc i + suc r) (suc (suc q)) && isLess (R ρ w (suc (suc i)) (suc (suc q)))) ≡ hitAt ρ one w hw final t (suc i) r (getD w (suc i) 0) l
+          → (exists w t (suc i + suc r) (suc (suc q)) && isLess (R ρ w (suc (suc i)) (suc (suc q)))) ≡ hitAt ρ w t (suc i) r (getD w (suc i) 0) l
       at q l e off =
           ap (λ (x : Bool). exists w t (suc i + suc r) (suc (suc q)) && x) (less-last ρ one w hw (suc q) l (suc i) e h)
           ∙ alone (exists w t (suc i + suc r) (suc (suc q))) (isLess (R ρ w (suc i) (suc (suc q)))) (isEqual (R ρ w (suc i) (suc (suc q))))

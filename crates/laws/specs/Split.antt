@@ -19,6 +19,16 @@ use Rattle.laws.specs.Orders.{Ranking, OneToOne, ranked, keyed-law, valu
 use Rattle.laws.specs.Minima.{length-windows, window-at, windows-drop, windows-take, windows-mer, vigemin-is}
 use Rattle.laws.specs.Counting.{count, count-cong, count-none, count-either, count-product}
 
+-- ---- the sum
+
+-- over the first n rows a, the antemers in row k−m−a times the postmers in row a
+abbrev pub rowsSum : Form → Word → ℕ → ℕ → ℕ
+rowsSum f w k n = total (tabulate (λ a. antemers f w (k - length w - a) * postmers f w a) n)
+
+-- W3, key TAA and word AAA: antemers 1, 0 and postmers 1, 4 come to 4
+pub rows-case : rowsSum (keyed (3 ∷ 0 ∷ 0 ∷ [])) (0 ∷ 0 ∷ 0 ∷ []) 4 2 ≡ 4
+rows-case = refl
+
 -- ---- a test that splits into two
 
 -- t is p or q, and never both
@@ -146,8 +156,7 @@ module _ (f : Form) (w : Word) where
         (rw length-windows (omega (arith, i .0))) (λ v j. word-splits v (windows-mer (length w) x (i .1) j)))
 
     -- the words in which w first stands at place a or beyond it, with n places left, by sums of antemers times postmers
-    from-sum : (k n a : ℕ) → suc k ≡ a + (length w + n)
-        → count (standsFrom a) k ≡ total (tabulate (λ p. antemers f w (k - length w - p) * postmers f w p) n)
+    from-sum : (k n a : ℕ) → suc k ≡ a + (length w + n) → count (standsFrom a) k ≡ rowsSum f w k n
     from-sum k zero a h = from-past a k (omega arith)
     from-sum k (suc n) a h =
         let whole : k ≡ a + (length w + n) = omega arith in
@@ -155,15 +164,14 @@ module _ (f : Form) (w : Word) where
         from-splits a k (omega arith)
         ∙ ap₂ (λ (s t : ℕ). s + t) (ap (count (standsAt a)) whole ∙ at-product a n ∙ ap (λ (i : ℕ). antemers f w i * postmers f w n) before)
         (from-sum k n (suc a) (omega arith))
-        ∙ add-comm (antemers f w (k - length w - n) * postmers f w n) (total (tabulate (λ p. antemers f w (k - length w - p) * postmers f w p) n))
+        ∙ add-comm (antemers f w (k - length w - n) * postmers f w n) (rowsSum f w k n)
         ∙ sym (total-last (λ p. antemers f w (k - length w - p) * postmers f w p) n)
 
 -- ---- the size of a shelf
 
 module _ (ρ : Ranking) (one : OneToOne ρ) (w : Word) (hw : Letters w) (pos : 0 < length w) where
   -- the size of a shelf is the sum, over the ways to cut k − m letters in two, of antemers times postmers
-  pub size-sum : (k : ℕ) → length w ≤ k
-      → size (ranked ρ) k w ≡ total (tabulate (λ a. antemers (ranked ρ) w (k - length w - a) * postmers (ranked ρ) w a) (suc (k - length w)))
+  pub size-sum : (k : ℕ) → length w ≤ k → size (ranked ρ) k w ≡ rowsSum (ranked ρ) w k (suc (k - length w))
   size-sum k h =
       size-from (ranked ρ) w pos apart k ∙ from-sum (ranked ρ) w pos apart k (suc (k - length w)) zero (omega arith)
     where
@@ -172,7 +180,6 @@ module _ (ρ : Ranking) (one : OneToOne ρ) (w : Word) (hw : Letters w) (pos : 0
 
 -- the size of a shelf under a key is the sum, over the ways to cut k − m letters in two, of antemers times postmers
 pub keyed-size-sum : (key w : Word) → Letters key → Letters w → 0 < length w → (k : ℕ) → length w ≤ k
-    → size (keyed key) k w ≡ total (tabulate (λ a. antemers (keyed key) w (k - length w - a) * postmers (keyed key) w a) (suc (k - length w)))
+    → size (keyed key) k w ≡ rowsSum (keyed key) w k (suc (k - length w))
 keyed-size-sum key w hk hw pos k h =
-    keyed-law (λ ρ f. size f k w ≡ total (tabulate (λ a. antemers f w (k - length w - a) * postmers f w a) (suc (k - length w))))
-    (λ ρ one. size-sum ρ one w hw pos k h) key hk
+    keyed-law (λ ρ f. size f k w ≡ rowsSum f w k (suc (k - length w))) (λ ρ one. size-sum ρ one w hw pos k h) key hk
