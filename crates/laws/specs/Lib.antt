@@ -21,6 +21,9 @@ pub mod Places
 pub mod Numbers
 pub mod Minima
 pub mod Scans
+pub mod Rooms
+pub mod Stamps
+pub mod Rolls
 pub mod Counting
 pub mod Walks
 pub mod Catalogue
@@ -39,3 +42,4 @@ pub mod Antemers
 pub mod Postmers
 pub mod Print
 pub mod Refusals
+pub mod Accepted

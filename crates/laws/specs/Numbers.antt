@@ -17,7 +17,7 @@ use Rattle.definitions.specs.Words.{Word, letters, Digits, Letters, number, dig
 use Rattle.definitions.specs.Vigemins.{keyed, value, below}
 use Rattle.definitions.specs.Refusals.{firstBad}
 use Rattle.laws.specs.Filters.{all-at, length-tabulate, tabulate-at}
-use Rattle.laws.specs.Places.{firstPlace-holds, firstPlace-all}
+use Rattle.laws.specs.Places.{firstPlace-holds, firstPlace-le, firstPlace-all}
 use Rattle.laws.specs.Tests.{and-l, and-r, and-i, leb-cong}
 
 -- ---- digits and their number
@@ -50,6 +50,12 @@ number-digits {b} pos (suc n) x =
 -- a number below b^n is that of its last n digits
 pub number-digits-lt : {b : ℕ} → 0 < b → (n x : ℕ) → x < b ^ n → number b (digits b n x) ≡ x
 number-digits-lt pos n x h = number-digits pos n x ∙ mod-eq-of-lt h
+
+-- the digit at a place with j digits behind it
+pub digits-at : (b n x i j : ℕ) → suc (i + j) ≡ n → getD (digits b n x) i 0 ≡ x / b ^ j % b
+digits-at b zero x i j e = absurd (omega arith)
+digits-at b (suc n) x zero j e = let q : j ≡ n = omega arith in rw q
+digits-at b (suc n) x (suc i) j e = digits-at b n x i j (omega arith)
 
 -- equally many digits with one number are the same digits
 pub number-inj : (b : ℕ) (u v : List ℕ) → Digits b u → Digits b v → length u ≡ length v → number b u ≡ number b v → u ≡ v
@@ -219,7 +225,7 @@ sum-letters (a ∷ u) [] hu hv = hu
 sum-letters (a ∷ u) (b ∷ v) hu hv = (sum-lt (hu .0) (hv .0), sum-letters u v (hu .1) (hv .1))
 
 -- a power of four is one of two
-four-pow : (n : ℕ) → 4 ^ n ≡ 2 ^ (2 * n)
+pub four-pow : (n : ℕ) → 4 ^ n ≡ 2 ^ (2 * n)
 four-pow zero = refl
 four-pow (suc n) = rw (mul-suc, pow-add, pow-suc 4 n, four-pow n)
 
@@ -281,3 +287,9 @@ text-letters (a ∷ x) h =
 -- a text has a bad place exactly if it is not all letters
 pub firstBad-all : (t : List ℕ) → ltb (firstBad t) (length t) ≡ not (all isLetter t)
 firstBad-all t = firstPlace-all isLetter t
+
+-- the first bad place of a text of letters alone is its end
+pub firstBad-none : (t : List ℕ) → all isLetter t ≡ true → firstBad t ≡ length t
+firstBad-none t e =
+    let none : ltb (firstBad t) (length t) ≡ false = firstBad-all t ∙ ap not e in
+    omega (arith, ltb-false (firstBad t) (length t) none, firstPlace-le (λ b. not (isLetter b)) t)

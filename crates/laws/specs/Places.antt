@@ -24,6 +24,15 @@ module _ {A : Type 0} (p : A → Bool) where
       go true e rec k = e
       go false e rec k = rec (le-of-suc-le-suc k)
 
+  -- the first place at which a test holds is at most the length
+  pub firstPlace-le : (l : List A) → firstPlace p l ≤ length l
+  firstPlace-le [] = omega arith
+  firstPlace-le (a ∷ l) = go (p a) (firstPlace-le l)
+    where
+      go : (t : Bool) → firstPlace p l ≤ length l → cond t zero (suc (firstPlace p l)) ≤ suc (length l)
+      go true h = omega arith
+      go false h = omega arith
+
   -- a test fails somewhere exactly if the first place at which it fails is below the length
   pub firstPlace-all : (l : List A) → ltb (firstPlace (λ a. not (p a)) l) (length l) ≡ not (all p l)
   firstPlace-all [] = refl
@@ -110,12 +119,7 @@ firstTo n p = firstPlace (λ t. t) (tabulate p n)
 
 -- it is at most n
 pub firstTo-le : (n : ℕ) (p : ℕ → Bool) → firstTo n p ≤ n
-firstTo-le zero p = omega arith
-firstTo-le (suc n) p = go (p zero) (firstTo-le n (λ q. p (suc q)))
-  where
-    go : (t : Bool) → firstTo n (λ q. p (suc q)) ≤ n → cond t zero (suc (firstTo n (λ q. p (suc q)))) ≤ suc n
-    go true h = omega arith
-    go false h = omega arith
+firstTo-le n p = rw length-tabulate at (firstPlace-le (λ t. t) (tabulate p n))
 
 -- a number at which a test holds, and below which it does not, is the least
 pub firstTo-is : (n : ℕ) (p : ℕ → Bool) (q : ℕ) → q < n → p q ≡ true → ((l : ℕ) → l < q → p l ≡ false) → firstTo n p ≡ q

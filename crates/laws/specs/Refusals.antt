@@ -3,7 +3,7 @@
 -- Assumes nothing.
 use Prim.Native.Nat.{ℕ, _≤_, _<_}
 use mathlib.Core.Bool.{Bool, true, false, cond}
-use mathlib.Core.List.{List, [], _∷_, map, List·Memᴰ, List·Memᴰ·head, List·Memᴰ·tail, List·Memᴰ·cases-cons, List·Memᴰ·not-nil}
+use mathlib.Core.List.{List, [], _∷_, _++_, map, List·Memᴰ, List·Memᴰ·head, List·Memᴰ·tail, List·Memᴰ·cases-cons, List·Memᴰ·not-nil}
 use mathlib.Core.Logic.{_⊎_, inl, inr, ⊎-elim}
 use mathlib.Core.Path.{_≡_, refl, ap, _∙_}
 use native.Mathlib.Omega.{arith}
@@ -55,3 +55,28 @@ refusal-none (h ∷ gs) up z {g} m = go (h .met) refl z (List·Memᴰ·cases-con
 pub refusal-zero : (gs : List Ground) → ((g : Ground) → List·Memᴰ g gs → g .met ≡ false) → refusal gs ≡ 0
 refusal-zero [] h = refl
 refusal-zero (g ∷ gs) h = ap (λ (t : Bool). cond t (g .number) (refusal gs)) (h g (List·Memᴰ·head refl)) ∙ refusal-zero gs (λ f m. h f (List·Memᴰ·tail m))
+
+-- none of some grounds is met, one after the other
+abbrev pub Unmet : List Ground → Type 0
+Unmet [] = Unit {0}
+Unmet (g ∷ gs) = (g .met ≡ false) × Unmet gs
+
+-- where each number is above 0, 0 is given for two lists in a row only where the first gives 0 and no ground of the second is met
+pub refusal-unmet : (gs hs : List Ground) → Above 0 (numbers (gs ++ hs)) → refusal (gs ++ hs) ≡ 0 → (refusal gs ≡ 0) × Unmet hs
+refusal-unmet [] [] up z = (refl, tt)
+refusal-unmet [] (h ∷ hs) up z =
+    let e : h .met ≡ false = refusal-none (h ∷ hs) up z (List·Memᴰ·head refl) in
+    (refl, (e, refusal-unmet [] hs (up .1) (rw e at z) .1))
+refusal-unmet (g ∷ gs) hs up z =
+    let e : g .met ≡ false = refusal-none (g ∷ (gs ++ hs)) up z (List·Memᴰ·head refl) in
+    rw e (refusal-unmet gs hs (up .1) (rw e at z))
+
+-- and 0 is given there
+pub unmet-refusal : (gs hs : List Ground) → refusal gs ≡ 0 → Unmet hs → refusal (gs ++ hs) ≡ 0
+unmet-refusal [] [] z u = refl
+unmet-refusal [] (h ∷ hs) z u = rw (u .0) (unmet-refusal [] hs refl (u .1))
+unmet-refusal (g ∷ gs) hs z u = go (g .met) z (λ y. unmet-refusal gs hs y u)
+  where
+    go : (t : Bool) → cond t (g .number) (refusal gs) ≡ 0 → (refusal gs ≡ 0 → refusal (gs ++ hs) ≡ 0) → cond t (g .number) (refusal (gs ++ hs)) ≡ 0
+    go true y rec = y
+    go false y rec = rec y

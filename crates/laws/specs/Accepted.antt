@@ -1,0 +1,208 @@
+-- What an operation accepts: for each list of grounds the facts that hold of the inputs exactly if none is met, as a record, and
+-- the way there and back. Then, that an answer bears the refusal that it was given.
+-- Assumes nothing.
+use Prim.Native.Nat.{ℕ, zero, suc, _-_, _*_, _^_, _≤_, _<_}
+use mathlib.Core.Bool.{true, false, not, _||_, true≢false}
+use mathlib.Core.List.{List, [], _∷_, _++_}
+use mathlib.Core.Path.{_≡_, refl, ap}
+use native.Mathlib.Nat.{zero-lt-suc, suc-ne-zero}
+use native.Mathlib.Omega.{arith}
+use borrow.Author.Tests.{ltb-false, le-ltb, leb-false, lt-leb, ne-eqb, not-false}
+use lib.Dec.{ltb, eqb}
+use lib.ListN.{length}
+use Rattle.definitions.specs.Lists.{all}
+use Rattle.definitions.specs.Words.{Word, word, isLetter}
+use Rattle.definitions.specs.Vigemins.{Form, keyed, windows}
+use Rattle.definitions.specs.Shelves.{size}
+use Rattle.definitions.specs.Refusals.{Ground, refusal, badKey, badWord, badSequence, badLetter, badRoom, badStart, badCounter}
+use Rattle.definitions.specs.Outcomes.{packGrounds, unpackGrounds, orderGrounds, shelfGrounds, counterGrounds, pageGrounds, scanGrounds, packAnswer, unpackAnswer, vigeminAnswer, scanAnswer}
+use Rattle.laws.specs.Refusals.{Unmet, refusal-unmet, unmet-refusal}
+
+-- the test of a length, and of m, fails of a number from 1 to the top
+inside : (n top : ℕ) → (eqb n 0 || ltb top n) ≡ false → (0 < n) × (n ≤ top)
+inside zero top e = absurd (true≢false e)
+inside (suc n) top e = (zero-lt-suc n, ltb-false top (suc n) (rw (ne-eqb (suc n) 0 (suc-ne-zero n)) at e))
+
+not-outside : {n top : ℕ} → 0 < n → n ≤ top → (eqb n 0 || ltb top n) ≡ false
+not-outside {n} {top} h l = rw (ne-eqb n 0 (omega arith)) (le-ltb top n l)
+
+-- ---- pack(text)
+
+-- a text that is packed: 1 to 31 bytes, each a letter
+pub record PackAccepted (t : List ℕ) : Type 0 where
+  pub some : 0 < length t
+  pub few : length t ≤ 31
+  pub allLetters : all isLetter t ≡ true
+
+-- packing refuses nothing: so the text is such a one
+pub pack-accepted : (t : List ℕ) → refusal (packGrounds t) ≡ 0 → PackAccepted t
+pack-accepted t z =
+    let u = refusal-unmet [] (packGrounds t) (omega arith) z .1 in
+    let n = inside (length t) 31 (u .0) in
+    record { some = n .0; few = n .1; allLetters = not-false (all isLetter t) (u .1 .0) }
+
+-- packing refuses no such text
+pub accepted-pack : {t : List ℕ} → PackAccepted t → refusal (packGrounds t) ≡ 0
+accepted-pack {t} a = unmet-refusal [] (packGrounds t) refl (not-outside (a .some) (a .few), (ap not (a .allLetters), tt))
+
+-- ---- unpack(word, length, room)
+
+-- what unpacking accepts: 1 to 31 letters, a word of so many, and room for them
+pub record UnpackAccepted (x n : ℕ) (room : List ℕ) : Type 0 where
+  pub some : 0 < n
+  pub few : n ≤ 31
+  pub small : x < 4 ^ n
+  pub fits : n ≤ length room
+
+-- where unpacking refuses nothing, it has such inputs
+pub unpack-accepted : (x n : ℕ) (room : List ℕ) → refusal (unpackGrounds x n room) ≡ 0 → UnpackAccepted x n room
+unpack-accepted x n room z =
+    let u = refusal-unmet [] (unpackGrounds x n room) (omega arith) z .1 in
+    omega (arith, inside n 31 (u .0), leb-false, ltb-false)
+
+-- such inputs are not refused
+pub accepted-unpack : {x n : ℕ} {room : List ℕ} → UnpackAccepted x n room → refusal (unpackGrounds x n room) ≡ 0
+accepted-unpack {x} {n} {room} a =
+    unmet-refusal [] (unpackGrounds x n room) refl (not-outside (a .some) (a .few), omega (arith, lt-leb, le-ltb))
+
+-- ---- k, m and the key
+
+-- the lengths and keys that every other operation accepts: 1 ≤ m ≤ k ≤ 31, and a key of m letters
+pub record OrderAccepted (k m key : ℕ) : Type 0 where
+  pub kSome : 0 < k
+  pub kFew : k ≤ 31
+  pub mSome : 0 < m
+  pub mFits : m ≤ k
+  pub keySmall : key < 4 ^ m
+
+-- where k, m and the key are not refused, they are such
+pub order-accepted : (k m key : ℕ) → refusal (orderGrounds k m (badKey m key)) ≡ 0 → OrderAccepted k m key
+order-accepted k m key z =
+    let u = refusal-unmet [] (orderGrounds k m (badKey m key)) (omega arith) z .1 in
+    omega (arith, inside k 31 (u .0), inside m k (u .1 .0), leb-false)
+
+-- such a k, m and key are not refused
+pub accepted-order : {k m key : ℕ} → OrderAccepted k m key → refusal (orderGrounds k m (badKey m key)) ≡ 0
+accepted-order {k} {m} {key} a =
+    unmet-refusal [] (orderGrounds k m (badKey m key)) refl
+    (not-outside (a .kSome) (a .kFew), (not-outside (a .mSome) (a .mFits), omega (arith, lt-leb)))
+
+-- ---- vigemin(k, m, key, kmer), size and worksheet(k, m, key, word)
+
+-- what these accept: a k, m and key, and the number of a word of n letters
+pub record WordAccepted (n k m key x : ℕ) : Type 0 where
+  pub order : OrderAccepted k m key
+  pub small : x < 4 ^ n
+
+-- the vigemin takes a k-mer
+abbrev pub VigeminAccepted : ℕ → ℕ → ℕ → ℕ → Type 0
+VigeminAccepted k m key x = WordAccepted k k m key x
+
+-- the size and the worksheet take an m-mer
+abbrev pub ShelfAccepted : ℕ → ℕ → ℕ → ℕ → Type 0
+ShelfAccepted k m key w = WordAccepted m k m key w
+
+-- where they refuse nothing, they have such inputs: for the vigemin n is k, and for the shelf m
+pub word-accepted : (n k m key x : ℕ) → refusal (orderGrounds k m (badKey m key) ++ (badWord n x ∷ [])) ≡ 0 → WordAccepted n k m key x
+word-accepted n k m key x z =
+    let u = refusal-unmet (orderGrounds k m (badKey m key)) (badWord n x ∷ []) (omega arith) z in
+    record { order = order-accepted k m key (u .0); small = leb-false (4 ^ n) x (u .1 .0) }
+
+-- such inputs are not refused
+pub accepted-word : {n k m key x : ℕ} → WordAccepted n k m key x → refusal (orderGrounds k m (badKey m key) ++ (badWord n x ∷ [])) ≡ 0
+accepted-word {n} {k} {m} {key} {x} a =
+    unmet-refusal (orderGrounds k m (badKey m key)) (badWord n x ∷ []) (accepted-order (a .order)) (omega (arith, lt-leb))
+
+-- ---- the plain counter (k, m, key, word)
+
+-- what the plain counter accepts: what a shelf takes, and k − m up to 10
+pub record CounterAccepted (k m key w : ℕ) : Type 0 where
+  pub shelf : ShelfAccepted k m key w
+  pub near : k - m ≤ 10
+
+-- where the plain counter refuses nothing, it has such inputs
+pub counter-accepted : (k m key w : ℕ) → refusal (counterGrounds k m key w) ≡ 0 → CounterAccepted k m key w
+counter-accepted k m key w z =
+    let u = refusal-unmet (shelfGrounds k m key w) (badCounter k m ∷ []) (omega arith) z in
+    record { shelf = word-accepted m k m key w (u .0); near = ltb-false 10 (k - m) (u .1 .0) }
+
+-- such inputs are not refused
+pub accepted-counter : {k m key w : ℕ} → CounterAccepted k m key w → refusal (counterGrounds k m key w) ≡ 0
+accepted-counter {k} {m} {key} {w} a =
+    unmet-refusal (shelfGrounds k m key w) (badCounter k m ∷ []) (accepted-word (a .shelf)) (omega (arith, le-ltb))
+
+-- ---- page(k, m, key, word, start, room)
+
+-- what a page accepts: what a shelf takes, and a start up to the size
+pub record PageAccepted (k m key w start : ℕ) : Type 0 where
+  pub shelf : ShelfAccepted k m key w
+  pub starts : start ≤ size (keyed (word m key)) k (word m w)
+
+-- where a page refuses nothing, it has such inputs
+pub page-accepted : (k m key w start : ℕ) → refusal (pageGrounds k m key w start) ≡ 0 → PageAccepted k m key w start
+page-accepted k m key w start z =
+    let n = size (keyed (word m key)) k (word m w) in
+    let u = refusal-unmet (shelfGrounds k m key w) (badStart n start ∷ []) (omega arith) z in
+    record { shelf = word-accepted m k m key w (u .0); starts = ltb-false n start (u .1 .0) }
+
+-- such inputs are not refused
+pub accepted-page : {k m key w start : ℕ} → PageAccepted k m key w start → refusal (pageGrounds k m key w start) ≡ 0
+accepted-page {k} {m} {key} {w} {start} a =
+    let n = size (keyed (word m key)) k (word m w) in
+    unmet-refusal (shelfGrounds k m key w) (badStart n start ∷ []) (accepted-word (a .shelf)) (omega (arith, le-ltb))
+
+-- ---- scan(k, m, key, seq, room)
+
+-- what a scan accepts: a k, m and key, at most 65,536 bytes, each a letter, and room for so many entries for each window
+pub record ScanAccepted (k m key : ℕ) (s : List ℕ) (each : ℕ) (room : List ℕ) : Type 0 where
+  pub order : OrderAccepted k m key
+  pub short : length s ≤ 65536
+  pub allLetters : all isLetter s ≡ true
+  pub fits : each * length (windows k s) ≤ length room
+
+-- the grounds after those of k, m and the key
+abbrev scanRest : ℕ → List ℕ → ℕ → List ℕ → List Ground
+scanRest k s each room = badSequence (length s) ∷ badLetter s ∷ badRoom (each * length (windows k s)) (length room) ∷ []
+
+-- where a scan refuses nothing, it has such inputs
+pub scan-accepted : (k m key : ℕ) (s : List ℕ) (each : ℕ) (room : List ℕ) → refusal (scanGrounds k m key s each room) ≡ 0 → ScanAccepted k m key s each room
+scan-accepted k m key s each room z =
+    let u = refusal-unmet (orderGrounds k m (badKey m key)) (scanRest k s each room) (omega arith) z in
+    record {
+      order = order-accepted k m key (u .0);
+      short = omega (arith, ltb-false);
+      allLetters = not-false (all isLetter s) (u .1 .1 .0);
+      fits = omega (arith, ltb-false);
+    }
+
+-- such inputs are not refused
+pub accepted-scan : {k m key : ℕ} {s : List ℕ} {each : ℕ} {room : List ℕ} → ScanAccepted k m key s each room → refusal (scanGrounds k m key s each room) ≡ 0
+accepted-scan {k} {m} {key} {s} {each} {room} a =
+    unmet-refusal (orderGrounds k m (badKey m key)) (scanRest k s each room) (accepted-order (a .order))
+    (omega (arith, le-ltb), (ap not (a .allLetters), omega (arith, le-ltb)))
+
+-- ---- the refusal of an answer is the one that it was given
+
+-- of packing
+pub packAnswer-refusal : (r : ℕ) (t : List ℕ) → packAnswer r t .refusal ≡ r
+unfolding packAnswer
+packAnswer-refusal zero t = refl
+packAnswer-refusal (suc r) t = refl
+
+-- of unpacking
+pub unpackAnswer-refusal : (r x n : ℕ) (room : List ℕ) → unpackAnswer r x n room .refusal ≡ r
+unfolding unpackAnswer
+unpackAnswer-refusal zero x n room = refl
+unpackAnswer-refusal (suc r) x n room = refl
+
+-- of the vigemin
+pub vigeminAnswer-refusal : (r : ℕ) (f : Form) (m : ℕ) (x : Word) → vigeminAnswer r f m x .refusal ≡ r
+unfolding vigeminAnswer
+vigeminAnswer-refusal zero f m x = refl
+vigeminAnswer-refusal (suc r) f m x = refl
+
+-- of a scan
+pub scanAnswer-refusal : (r : ℕ) (entries : List ℕ → List ℕ) (f : Form) (k m : ℕ) (s room : List ℕ) → scanAnswer r entries f k m s room .refusal ≡ r
+unfolding scanAnswer
+scanAnswer-refusal zero entries f k m s room = refl
+scanAnswer-refusal (suc r) entries f k m s room = refl

@@ -1,0 +1,24 @@
+-- `words::order_refusal` meets its contract: each return gives the number of the first ground whose test held.
+-- Assumes nothing.
+use borrow.Author.Needs.{needs}
+use mathlib.Core.Path.{_≡_, sym, _∙_}
+use Rattle.words.proofs.order_refusal.Statement.{statement}
+use Rattle.words.proofs.order_refusal.Tie as tie
+
+returns : tie.Need-returns
+returns c = rw (c .if1 .taken)
+
+returns-2 : tie.Need-returns-2
+returns-2 c = rw (c .before .if1 .left, c .if2 .taken)
+
+too-large-requires : tie.Need-too-large-requires
+too-large-requires c κs = search needs
+
+returns-3 : tie.Need-returns-3
+returns-3 c = rw (c .before .before .before .if1 .left, c .before .before .if2 .left, ← c .before .too-large .ensures, c .if3 .taken)
+
+returns-4 : tie.Need-returns-4
+returns-4 c = rw (c .before .before .before .if1 .left, c .before .before .if2 .left, ← c .before .too-large .ensures, c .if3 .left)
+
+pub order-refusal-spec : {M : Type 1} → statement M
+order-refusal-spec = tie.close (tie.spec returns returns-2 too-large-requires returns-3 returns-4)

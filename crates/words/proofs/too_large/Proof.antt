@@ -1,0 +1,28 @@
+-- `words::too_large` meets its contract: no number of 64 bits is too large for 32 letters or more, and below that the table tells.
+-- Assumes nothing.
+use Prim.Native.Nat.{ℕ, _^_, _<_, _≤_}
+use mathlib.Core.Path.{_≡_, sym}
+use native.Mathlib.Nat.{pow-le-pow-right}
+use native.Mathlib.Omega.{arith}
+use borrow.Author.Needs.{needs}
+use borrow.Author.Tests.{le-leb, lt-leb}
+use Rattle.laws.specs.Numbers.{four-pos}
+use Rattle.words.proofs.too_large.Statement.{statement}
+use Rattle.words.proofs.too_large.Tie as tie
+
+returns : tie.Need-returns
+returns c =
+    let n = c .before .args .n in
+    let large : 4 ^ 32 ≤ 4 ^ n = pow-le-pow-right four-pos (c .if1 .taken) in
+    sym (lt-leb (4 ^ n) (c .before .args .word) (omega (arith, c .before .fits .word)))
+
+power-requires : tie.Need-power-requires
+power-requires c κs = search needs
+
+returns-2 : tie.Need-returns-2
+returns-2 c =
+    let n = c .before .before .args .n in
+    rw (c .power .ensures, le-leb n 31 (c .before .if1 .left))
+
+pub too-large-spec : {M : Type 1} → statement M
+too-large-spec = tie.close (tie.spec returns power-requires returns-2)

@@ -1,0 +1,3 @@
+pub mod Powers
+pub mod Letters
+pub mod Answers
