@@ -206,14 +206,19 @@ abbrev pub asBytes : List ℕ → List ℕ
 asBytes [] = []
 asBytes (p ∷ ps) = bytes 4 p ++ asBytes ps
 
+-- the outcome of the scan into bytes (k, m, key, seq, room): its room is bytes, four for each position
+unfoldable pub scanBytesOutcome : ℕ → ℕ → ℕ → List ℕ → List ℕ → Scanned
+unfolding scanAnswer
+scanBytesOutcome k m key s room = scanAnswer (refusal (scanGrounds k m key s 4 room)) asBytes (keyed (word m key)) k m s room
+
 -- what the foreign scan answers, and the room
 pub record ForeignScanned : Type 0 where
   pub answer : ℕ
   pub room : List ℕ
 
--- the outcome of the foreign scan(k, m, key, seq, room): its room is bytes, four for each position
+-- the outcome of the foreign scan(k, m, key, seq, room): that of the scan into bytes, as one number
 unfoldable pub foreignScanOutcome : ℕ → ℕ → ℕ → List ℕ → List ℕ → ForeignScanned
-unfolding scanAnswer
+unfolding scanBytesOutcome
 foreignScanOutcome k m key s room =
-    let o = scanAnswer (refusal (scanGrounds k m key s 4 room)) asBytes (keyed (word m key)) k m s room in
+    let o = scanBytesOutcome k m key s room in
     record { answer = coded (o .refusal) (o .place) (o .windows); room = o .room }

@@ -11,14 +11,14 @@ use borrow.Author.Tests.{ltb-false, le-ltb, leb-false, lt-leb, ne-eqb, not-false
 use lib.Dec.{ltb, eqb}
 use lib.ListN.{length}
 use Rattle.definitions.specs.Lists.{all}
-use Rattle.definitions.specs.Words.{Word, word, isLetter}
+use Rattle.definitions.specs.Words.{word, isLetter}
 use Rattle.definitions.specs.Vigemins.{Form, keyed, windows}
 use Rattle.definitions.specs.Shelves.{size}
 use Rattle.definitions.specs.Refusals.{Ground, refusal, badKey, badWord, badSequence, badLetter, badRoom, badStart, badCounter}
-use Rattle.definitions.specs.Outcomes.{packGrounds, unpackGrounds, orderGrounds, shelfGrounds, counterGrounds, pageGrounds, scanGrounds, packAnswer, unpackAnswer, vigeminAnswer, scanAnswer}
-use Rattle.laws.specs.Refusals.{Unmet, refusal-unmet, unmet-refusal}
+use Rattle.definitions.specs.Outcomes.{packGrounds, unpackGrounds, orderGrounds, shelfGrounds, counterGrounds, pageGrounds, scanGrounds, packAnswer, unpackAnswer, scanAnswer}
+use Rattle.laws.specs.Refusals.{refusal-unmet, unmet-refusal}
 
--- the test of a length, and of m, fails of a number from 1 to the top
+-- the test of a length, and of m, is not met exactly by the numbers from 1 to a top
 inside : (n top : ℕ) → (eqb n 0 || ltb top n) ≡ false → (0 < n) × (n ≤ top)
 inside zero top e = absurd (true≢false e)
 inside (suc n) top e = (zero-lt-suc n, ltb-false top (suc n) (rw (ne-eqb (suc n) 0 (suc-ne-zero n)) at e))
@@ -28,20 +28,20 @@ not-outside {n} {top} h l = rw (ne-eqb n 0 (omega arith)) (le-ltb top n l)
 
 -- ---- pack(text)
 
--- a text that is packed: 1 to 31 bytes, each a letter
+-- what packing accepts: 1 to 31 bytes, each a letter
 pub record PackAccepted (t : List ℕ) : Type 0 where
   pub some : 0 < length t
   pub few : length t ≤ 31
   pub allLetters : all isLetter t ≡ true
 
--- packing refuses nothing: so the text is such a one
+-- where packing refuses nothing, it has such a text
 pub pack-accepted : (t : List ℕ) → refusal (packGrounds t) ≡ 0 → PackAccepted t
 pack-accepted t z =
     let u = refusal-unmet [] (packGrounds t) (omega arith) z .1 in
     let n = inside (length t) 31 (u .0) in
     record { some = n .0; few = n .1; allLetters = not-false (all isLetter t) (u .1 .0) }
 
--- packing refuses no such text
+-- such a text is not refused
 pub accepted-pack : {t : List ℕ} → PackAccepted t → refusal (packGrounds t) ≡ 0
 accepted-pack {t} a = unmet-refusal [] (packGrounds t) refl (not-outside (a .some) (a .few), (ap not (a .allLetters), tt))
 
@@ -194,12 +194,6 @@ pub unpackAnswer-refusal : (r x n : ℕ) (room : List ℕ) → unpackAnswer r x 
 unfolding unpackAnswer
 unpackAnswer-refusal zero x n room = refl
 unpackAnswer-refusal (suc r) x n room = refl
-
--- of the vigemin
-pub vigeminAnswer-refusal : (r : ℕ) (f : Form) (m : ℕ) (x : Word) → vigeminAnswer r f m x .refusal ≡ r
-unfolding vigeminAnswer
-vigeminAnswer-refusal zero f m x = refl
-vigeminAnswer-refusal (suc r) f m x = refl
 
 -- of a scan
 pub scanAnswer-refusal : (r : ℕ) (entries : List ℕ → List ℕ) (f : Form) (k m : ℕ) (s room : List ℕ) → scanAnswer r entries f k m s room .refusal ≡ r

@@ -1,13 +1,14 @@
 -- Filters: what is chosen from a list, from joined lists, and from all words of n + 1 letters.
 -- Assumes nothing.
-use Prim.Native.Nat.{ℕ, zero, suc, _+_, _≤_, _<_, suc-le-suc}
-use native.Mathlib.Nat.{le-refl, le-of-suc-le-suc, not-suc-le-zero, zero-lt-suc}
+use Prim.Native.Nat.{ℕ, zero, suc, _+_, _*_, _≤_, _<_, suc-le-suc}
+use native.Mathlib.Nat.{le-refl, le-of-suc-le-suc, not-suc-le-zero, zero-lt-suc, mul-zero, mul-suc}
 use native.Mathlib.Omega.{arith}
 use mathlib.Core.Bool.{Bool, true, false, cond, _&&_, _||_}
 use mathlib.Core.List.{List, [], _∷_, _++_, map, List·Memᴰ, List·Memᴰ·head, List·Memᴰ·tail, List·Memᴰ·cases-cons, List·Memᴰ·not-nil}
 use mathlib.Core.Logic.{_⊎_, inl, inr, ⊎-elim}
 use mathlib.Core.Path.{_≡_, refl, sym, ap, ap₂, _∙_}
-use lib.ListN.{length, getD, length-append, length-map}
+use lib.ListN.{length, getD, take, drop, length-append, length-map}
+use lib.Seq.{drop-drop, take-at, drop-at}
 use Rattle.definitions.specs.Lists.{put, filter, all, tabulate, total}
 use Rattle.definitions.specs.Words.{Word, letters, spread, words}
 use Rattle.laws.specs.Tests.{and-l, and-r, and-i, or-l, or-r, or-cases, contrary}
@@ -174,6 +175,20 @@ module _ {A B : Type 0} where
   pub length-joined : (f : A → List B) (l : List A) → length (joined f l) ≡ total (map (λ a. length (f a)) l)
   length-joined f [] = refl
   length-joined f (a ∷ l) = length-append (f a) (joined f l) ∙ ap (λ n. length (f a) + n) (length-joined f l)
+
+  -- where each entry gives n entries, n times as many
+  pub length-joined-even : (f : A → List B) (n : ℕ) → ((a : A) → length (f a) ≡ n) → (l : List A) → length (joined f l) ≡ n * length l
+  length-joined-even f n e [] = sym (mul-zero n)
+  length-joined-even f n e (a ∷ l) = rw (length-append, e a, length-joined-even f n e l, mul-suc) (omega arith)
+
+  -- and those of an entry stand at n times its place
+  pub joined-at : (f : A → List B) (n : ℕ) → ((a : A) → length (f a) ≡ n) → (l : List A) (d : A) (i : ℕ) → i < length l
+      → take n (drop (n * i) (joined f l)) ≡ f (getD l i d)
+  joined-at f n e [] d i h = absurd (not-suc-le-zero h)
+  joined-at f n e (a ∷ l) d zero h = rw mul-zero (take-at (f a) (joined f l) n (e a))
+  joined-at f n e (a ∷ l) d (suc i) h =
+      let place : n * suc i ≡ n + n * i = omega (arith, mul-suc n i) in
+      rw (place, ← drop-drop (n * i) n (f a ++ joined f l), drop-at (f a) (joined f l) n (e a)) (joined-at f n e l d i (le-of-suc-le-suc h))
 
   -- a filter of what a function gives
   pub filter-map : (p : B → Bool) (g : A → B) (l : List A) → filter p (map g l) ≡ map g (filter (λ z. p (g z)) l)

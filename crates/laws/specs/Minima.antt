@@ -5,12 +5,12 @@ use mathlib.Core.Bool.{Bool, true, false, cond, not, _&&_}
 use mathlib.Core.List.{List, [], _∷_, _++_, map, List·Memᴰ}
 use mathlib.Core.Logic.{_⊎_, inl, inr, ⊎-elim}
 use mathlib.Core.Path.{_≡_, refl, sym, ap, ap₂, _∙_}
-use native.Mathlib.Nat.{zero-add, suc-add, lt-trans, le-trans, lt-of-lt-of-le, min-eq-left, min-eq-right, le-refl, le-of-lt, le-of-suc-le-suc, not-suc-le-zero, zero-lt-suc, le-antisymm}
+use native.Mathlib.Nat.{zero-add, add-zero, suc-add, lt-trans, le-trans, lt-of-lt-of-le, min-eq-left, min-eq-right, le-refl, le-of-lt, le-of-suc-le-suc, not-suc-le-zero, zero-lt-suc, le-antisymm}
 use native.Mathlib.Omega.{arith}
 use borrow.Author.Tests.{lt-leb, ltb-false, le-ltb, leb-true, leb-false, le-leb, not-true}
 use lib.Dec.{leb}
 use lib.ListN.{length, getD, take, drop, length-map, length-append, length-take, length-drop, List·getD-append, List·getD-eq-default}
-use lib.Seq.{length-take-le, take-nil, getD-append-add, take-take, ext-getD, drop-drop, getD-drop, getD-take}
+use lib.Seq.{length-take-le, take-nil, take-suc, getD-append-add, take-take, ext-getD, drop-drop, getD-drop, getD-take}
 use Rattle.definitions.specs.Lists.{put, all}
 use Rattle.definitions.specs.Words.{Word, Letters, Mer, same}
 use Rattle.definitions.specs.Vigemins.{Form, value, below, windows, leastPlace, vigeminAt, vigemin}
@@ -135,6 +135,14 @@ pub least-value-append : (u v : List ℕ) → 0 < length u → 0 < length v
     → getD (u ++ v) (leastPlace (u ++ v)) 0 ≡ min (getD u (leastPlace u) 0) (getD v (leastPlace v) 0)
 least-value-append u v h k = rw (least-append u v h k) (min-at u v (leastPlace v) (least-lt u h) (leb (getD u (leastPlace u) 0) (getD v (leastPlace v) 0)) refl)
 
+-- with one number more the least stays where it is, unless that number is strictly less
+pub least-more : (l : List ℕ) (p : ℕ) → 0 < p → p < length l
+    → leastPlace (take (suc p) l) ≡ cond (leb (getD l (leastPlace (take p l)) 0) (getD l p 0)) (leastPlace (take p l)) p
+least-more l p some h =
+    let long : length (take p l) ≡ p = length-take-le p l (le-of-lt h) in
+    let inside : leastPlace (take p l) < p = rw long at (least-lt (take p l) (rw long some)) in
+    rw (take-suc l p 0 h, least-append (take p l) (getD l p 0 ∷ []) (rw long some) (zero-lt-suc 0), getD-take p l (leastPlace (take p l)) 0 inside, long, add-zero)
+
 -- ---- the entry of the least number
 
 module _ {A : Type 0} (g : A → ℕ) (l : List A) (d : A) where
@@ -168,6 +176,20 @@ module _ {A : Type 0} where
   -- a stretch inside is as long as was asked for
   pub length-stretch : (n : ℕ) (x : List A) (p : ℕ) → p + n ≤ length x → length (take n (drop p x)) ≡ n
   length-stretch n x p h = length-take-le n (drop p x) (rw length-drop (omega arith))
+
+  -- a test that holds of every entry holds of every entry of a stretch inside
+  pub all-stretch : (t : A → Bool) (n : ℕ) (x : List A) (p : ℕ) (d : A) → p + n ≤ length x → all t x ≡ true → all t (take n (drop p x)) ≡ true
+  all-stretch t n x p d h e =
+      at-all t (take n (drop p x)) d
+      (λ i k. let b : i < n = rw (length-stretch n x p h) at k in rw (getD-take n (drop p x) i d b, getD-drop) (all-at t x d (p + i) e (omega arith)))
+
+  -- a stretch, each entry of it turned into something, is that stretch of all entries turned so
+  pub map-stretch : {B : Type 0} (f : A → B) (n : ℕ) (x : List A) (p : ℕ) → map f (take n (drop p x)) ≡ take n (drop p (map f x))
+  map-stretch f zero x p = refl
+  map-stretch f (suc n) [] zero = refl
+  map-stretch f (suc n) [] (suc p) = refl
+  map-stretch f (suc n) (a ∷ x) zero = ap (λ l. f a ∷ l) (map-stretch f n x zero)
+  map-stretch f (suc n) (a ∷ x) (suc p) = map-stretch f (suc n) x p
 
 put-length : (n k : ℕ) (y : Word) (ys : List Word) (t : Bool) → leb n k ≡ t → length ys ≡ k - n → length (put t y ys) ≡ suc k - n
 put-length n k y ys true e h = let b : n ≤ k = leb-true n k e in omega arith

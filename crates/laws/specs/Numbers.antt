@@ -9,7 +9,7 @@ use native.Mathlib.Omega.{arith}
 use borrow.Author.Tests.{ltb-true, ltb-false, lt-ltb, le-ltb, eqb-true, eqb-false}
 use lib.Arith.{digits-lt, digits-mod, digits-div, mod-mul}
 use lib.Pow.{pow-add}
-use lib.Bits.{bitXor, xor-lt, xor-zero-r, xor-block}
+use lib.Bits.{bitXor, bitAnd, and-mask, xor-lt, xor-zero-r, xor-block}
 use lib.Dec.{ltb, leb, eqb, leb·suc-suc}
 use lib.ListN.{length, take, drop, getD, length-append}
 use Rattle.definitions.specs.Lists.{all, tabulate}
@@ -228,6 +228,18 @@ sum-letters (a ∷ u) (b ∷ v) hu hv = (sum-lt (hu .0) (hv .0), sum-letters u v
 pub four-pow : (n : ℕ) → 4 ^ n ≡ 2 ^ (2 * n)
 four-pow zero = refl
 four-pow (suc n) = rw (mul-suc, pow-add, pow-suc 4 n, four-pow n)
+
+-- the mask of m letters keeps a number's last m letters
+pub mask-letters : (m n : ℕ) → bitAnd n (4 ^ m - 1) ≡ n % 4 ^ m
+mask-letters m n = rw four-pow (and-mask n (2 * m))
+
+-- a shift and a mask cut the m letters from place p on out of the number of a word of k letters
+pub window-cut : (p m k x : ℕ) → p + m ≤ k → bitAnd (x / 2 ^ (2 * (k - m - p))) (4 ^ m - 1) ≡ val (take m (drop p (word k x)))
+window-cut p m k x h = rw (mask-letters m, ← four-pow (k - m - p)) (sym (window-number p m k x h))
+
+-- the XOR of two words of m letters is one
+pub xor-letters : (m : ℕ) {a b : ℕ} → a < 4 ^ m → b < 4 ^ m → bitXor a b < 4 ^ m
+xor-letters m {a} {b} = rw four-pow (xor-lt (2 * m) a b)
 
 -- the XOR of two numbers with n letters behind goes over what stands before them and over these letters apart
 xor-four : (n a b r s : ℕ) → r < 4 ^ n → s < 4 ^ n → bitXor (a * 4 ^ n + r) (b * 4 ^ n + s) ≡ bitXor a b * 4 ^ n + bitXor r s

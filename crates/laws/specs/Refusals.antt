@@ -7,8 +7,11 @@ use mathlib.Core.List.{List, [], _∷_, _++_, map, List·Memᴰ, List·Memᴰ·h
 use mathlib.Core.Logic.{_⊎_, inl, inr, ⊎-elim}
 use mathlib.Core.Path.{_≡_, refl, ap, _∙_}
 use native.Mathlib.Omega.{arith}
+use borrow.Author.Tests.{ne-eqb, leb-true}
+use lib.Dec.{eqb, leb}
 use Rattle.definitions.specs.Refusals.{Ground, refusal}
-use Rattle.laws.specs.Tests.{contrary}
+use Rattle.definitions.specs.Lists.{all}
+use Rattle.laws.specs.Tests.{contrary, and-l, and-r}
 use Rattle.laws.specs.Counting.{Above, Increasing}
 
 -- the numbers of some grounds
@@ -56,6 +59,16 @@ pub refusal-zero : (gs : List Ground) → ((g : Ground) → List·Memᴰ g gs �
 refusal-zero [] h = refl
 refusal-zero (g ∷ gs) h = ap (λ (t : Bool). cond t (g .number) (refusal gs)) (h g (List·Memᴰ·head refl)) ∙ refusal-zero gs (λ f m. h f (List·Memᴰ·tail m))
 
+-- where each number is above 0, two lists in a row give what the first gives, or, where that is 0, what the second gives
+pub refusal-append : (gs hs : List Ground) {r : ℕ} → Above 0 (numbers gs) → refusal gs ≡ r → refusal (gs ++ hs) ≡ cond (eqb r 0) (refusal hs) r
+refusal-append [] hs up e = rw (← e)
+refusal-append (g ∷ gs) hs {r} up e = go (g .met) e (λ y. refusal-append gs hs (up .1) y)
+  where
+    go : (t : Bool) → cond t (g .number) (refusal gs) ≡ r → (refusal gs ≡ r → refusal (gs ++ hs) ≡ cond (eqb r 0) (refusal hs) r)
+        → cond t (g .number) (refusal (gs ++ hs)) ≡ cond (eqb r 0) (refusal hs) r
+    go true y rec = rw (← y, ne-eqb (g .number) 0 (omega (arith, up .0)))
+    go false y rec = rec y
+
 -- none of some grounds is met, one after the other
 abbrev pub Unmet : List Ground → Type 0
 Unmet [] = Unit {0}
@@ -80,3 +93,14 @@ unmet-refusal (g ∷ gs) hs z u = go (g .met) z (λ y. unmet-refusal gs hs y u)
     go : (t : Bool) → cond t (g .number) (refusal gs) ≡ 0 → (refusal gs ≡ 0 → refusal (gs ++ hs) ≡ 0) → cond t (g .number) (refusal (gs ++ hs)) ≡ 0
     go true y rec = y
     go false y rec = rec y
+
+-- a number that bounds those of some grounds bounds the one that is given
+pub refusal-most : (n : ℕ) (gs : List Ground) → all (λ i. leb i n) (numbers gs) ≡ true → refusal gs ≤ n
+refusal-most n [] e = omega arith
+refusal-most n (g ∷ gs) e =
+    go (g .met) (leb-true (g .number) n (and-l (leb (g .number) n) (all (λ i. leb i n) (numbers gs)) e))
+    (refusal-most n gs (and-r (leb (g .number) n) (all (λ i. leb i n) (numbers gs)) e))
+  where
+    go : (t : Bool) → g .number ≤ n → refusal gs ≤ n → cond t (g .number) (refusal gs) ≤ n
+    go true h rec = h
+    go false h rec = rec

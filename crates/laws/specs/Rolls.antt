@@ -3,7 +3,7 @@
 -- Assumes nothing.
 use Prim.Native.Nat.{ℕ, zero, suc, _+_, _-_, _*_, _/_, _%_, _^_, _≤_, _<_}
 use mathlib.Core.List.{List, [], _∷_, _++_, map}
-use mathlib.Core.Path.{_≡_, refl, sym, ap, ap₂, _∙_}
+use mathlib.Core.Path.{_≡_, refl, sym, ap, _∙_}
 use native.Mathlib.Nat.{pow-suc, pow-zero, one-mul, mul-one, add-zero, mul-add-mod-self-right, add-mul-mod-self-right, div-add-mod', add-mul, mul-right-comm, mod-eq-of-lt, mod-lt, one-le-pow}
 use native.Mathlib.Omega.{arith}
 use lib.Bits.{bitXor}
@@ -12,22 +12,9 @@ use lib.Seq.{take-suc, take-add}
 use Rattle.definitions.specs.Words.{Word, Letters, number, val, word, _⊕_}
 use Rattle.definitions.specs.Vigemins.{Form, keyed, value, windows, leastPlace, vigeminAt, scan}
 use Rattle.laws.specs.Numbers.{four-pos, number-lt, number-append, length-digits, digits-below, number-digits-lt, length-sum, sum-letters, keyed-value, letters-take, letters-drop}
-use Rattle.laws.specs.Minima.{length-stretch, stretch-mer, value-at, length-values, windows-take, windows-drop}
+use Rattle.laws.specs.Minima.{stretch-mer, map-stretch, value-at, length-values, windows-take, windows-drop}
 use Rattle.laws.specs.Scans.{scan-at}
 use Rattle.laws.specs.Stamps.{Under}
-
--- ---- parts of lists, entry by entry
-
-module _ {A B : Type 0} (g : A → B) where
-  map-take : (n : ℕ) (l : List A) → map g (take n l) ≡ take n (map g l)
-  map-take zero l = refl
-  map-take (suc n) [] = refl
-  map-take (suc n) (a ∷ l) = ap (λ (r : List B). g a ∷ r) (map-take n l)
-
-  map-drop : (n : ℕ) (l : List A) → map g (drop n l) ≡ drop n (map g l)
-  map-drop zero l = refl
-  map-drop (suc n) [] = refl
-  map-drop (suc n) (a ∷ l) = map-drop n l
 
 -- ---- the letters read last
 
@@ -66,13 +53,17 @@ abbrev pub values : ℕ → ℕ → Word → List ℕ
 values m key x = map (value (keyed (word m key))) (windows m x)
 
 module _ (m key : ℕ) (x : Word) (small : key < 4 ^ m) (s : Letters x) where
-  -- the value at a place is the XOR of the letters read last and the key
-  pub value-rolled : (p : ℕ) → p + m ≤ length x → getD (values m key x) p 0 ≡ bitXor (rolled m x (p + m)) key
-  value-rolled p h =
+  -- the value at a place is the XOR of the number of the m letters from there on and the key
+  pub value-mer : (p : ℕ) → p + m ≤ length x → getD (values m key x) p 0 ≡ bitXor (val (take m (drop p x))) key
+  value-mer p h =
       let mer = stretch-mer m x p h s in
       value-at (keyed (word m key)) m x p h
       ∙ keyed-value (word m key) (take m (drop p x)) (mer .0 ∙ sym (length-digits 4 m key)) (mer .1) (digits-below four-pos m key)
-      ∙ ap₂ bitXor (roll-mer m x p h s) (number-digits-lt four-pos m key small)
+      ∙ ap (bitXor (val (take m (drop p x)))) (number-digits-lt four-pos m key small)
+
+  -- it is the XOR of the letters read last and the key
+  pub value-rolled : (p : ℕ) → p + m ≤ length x → getD (values m key x) p 0 ≡ bitXor (rolled m x (p + m)) key
+  value-rolled p h = value-mer p h ∙ ap (λ v. bitXor v key) (roll-mer m x p h s)
 
   -- each value is below 4^m
   pub values-under : Under (4 ^ m) (values m key x)
@@ -90,4 +81,4 @@ pub scan-values : (f : Form) (k m : ℕ) (x : Word) (p : ℕ) → m ≤ k → p 
     → getD (scan f k m x) p 0 ≡ p + leastPlace (take (suc k - m) (drop p (map (value f) (windows m x))))
 scan-values f k m x p h b =
     rw (scan-at f k m x p b)
-    (rw (windows-take m (drop p x) k (rw length-drop (omega arith)), windows-drop m x p (omega arith), map-take, map-drop))
+    (rw (windows-take m (drop p x) k (rw length-drop (omega arith)), windows-drop m x p (omega arith), map-stretch))

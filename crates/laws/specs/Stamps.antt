@@ -47,6 +47,17 @@ pub stamped-append : (side o : ℕ) (u v : List ℕ) → stamped side o (u ++ v)
 stamped-append side o [] v = rw add-zero
 stamped-append side o (x ∷ u) v = ap (λ (l : List ℕ). (x * side + o) ∷ l) (stamped-append side (suc o) u v ∙ rw (suc-add, add-suc))
 
+-- as many stamps as values
+pub length-stamped : (side o : ℕ) (vs : List ℕ) → length (stamped side o vs) ≡ length vs
+length-stamped side o [] = refl
+length-stamped side o (v ∷ vs) = ap suc (length-stamped side (suc o) vs)
+
+-- the stamp at a place
+pub stamped-at : (side o : ℕ) (vs : List ℕ) (i : ℕ) → i < length vs → getD (stamped side o vs) i 0 ≡ getD vs i 0 * side + (o + i)
+stamped-at side o [] i h = absurd (not-suc-le-zero h)
+stamped-at side o (v ∷ vs) zero h = rw add-zero
+stamped-at side o (v ∷ vs) (suc i) h = stamped-at side (suc o) vs i (omega arith) ∙ omega arith
+
 -- each of some values is below a bound
 abbrev pub Under : ℕ → List ℕ → Type 0
 Under bound vs = (i : ℕ) → i < length vs → getD vs i 0 < bound

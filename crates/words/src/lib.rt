@@ -95,7 +95,8 @@ pub fn is_letter(byte: u8) -> bool
 pub fn letter(byte: u8) -> u64
     ensures { λ r. ⌜ r ≡ codeOf byte ⌝ }
 {
-    (((byte >> 1) ^ (byte >> 2)) % 4) as u64
+    let b = byte as u64;
+    ((b >> 1) ^ (b >> 2)) % 4
 }
 
 // Whether every byte is a letter. It goes through to the end, so that several bytes can be tested at once.

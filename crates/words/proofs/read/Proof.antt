@@ -10,21 +10,18 @@ use native.Mathlib.Omega.{arith}
 use borrow.Author.Needs.{needs}
 use lib.ListN.{length, getD, take, length-map}
 use lib.Seq.{length-take-le, take-length}
-use Rattle.definitions.specs.Words.{Word, val, spelled, isLetter, letterOf}
+use Rattle.definitions.specs.Words.{val, spelled}
 use Rattle.laws.specs.Accepted.{PackAccepted}
-use Rattle.laws.specs.Filters.{all-at, at-map}
 use Rattle.laws.specs.Numbers.{four-pos, number-lt, letters-take, spelled-letters}
 use Rattle.laws.specs.Rolls.{number-front}
-use Rattle.words.specs.Letters.{codeOf, code-lt, code-letter}
+use Rattle.words.specs.Letters.{codeOf, code-lt, code-spelled}
 use Rattle.words.proofs.read.Statement.{statement}
 use Rattle.words.proofs.read.Tie as tie
 
 module _ (t : List ℕ) (a : PackAccepted t) (i : ℕ) (h : i < length t) where
   -- one letter more is read
   one-more : val (take i (spelled t)) * 4 + codeOf (getD t i 0) ≡ val (take (suc i) (spelled t))
-  one-more =
-      rw (code-letter (getD t i 0) (all-at isLetter t 0 i (a .allLetters) h), ← at-map letterOf t 0 0 i h)
-      (sym (number-front 4 (spelled t) i (rw length-map h)))
+  one-more = rw (code-spelled t i (a .allLetters) h) (sym (number-front 4 (spelled t) i (rw length-map h)))
 
   -- before it fewer than 31 letters were read
   small : val (take i (spelled t)) < 4 ^ 30

@@ -1,0 +1,4 @@
+pub mod Blocks
+pub mod Letters
+pub mod Windows
+pub mod Scans

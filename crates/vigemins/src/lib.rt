@@ -1,0 +1,393 @@
+// Vigemins: the vigemin of a k-mer, and the scan of a sequence, into positions or into bytes.
+ghost use mathlib.Core.Path.{_≡_};
+ghost use mathlib.Core.List.{List};
+ghost use Prim.Native.Nat.{ℕ, suc, _+_, _-_, _*_, _/_, _%_, _^_, _≤_, _<_, min};
+ghost use lib.Bits.{bitXor, bitAnd};
+ghost use lib.ListN.{length};
+ghost use lib.Seq.{sets};
+ghost use Rattle.definitions.specs.Words.{word as wordOf, spelled, bytes};
+ghost use Rattle.definitions.specs.Lists.{over};
+ghost use Rattle.definitions.specs.Vigemins.{keyed};
+ghost use Rattle.definitions.specs.Outcomes.{vigeminAnswer, vigeminOutcome, scanOutcome, asBytes, scanBytesOutcome};
+ghost use Rattle.laws.specs.Accepted.{VigeminAccepted, OrderAccepted};
+ghost use Rattle.laws.specs.Rolls.{rolled, values};
+ghost use Rattle.words.specs.Letters.{codeOf};
+ghost use Rattle.vigemins.specs.Answers.{found, scanned};
+ghost use Rattle.vigemins.specs.Readings.{Entries, Suffixes, SetTo, Stampable, Stamped, Readable, Filled, Read, Turnable, Turned, Steppable, Examined, Writable, positionsOf};
+
+// The value by which an m-mer is compared: its sum with the key.
+fn value(mer: u64, key: u64) -> u64
+    ensures { λ r. ⌜ r ≡ bitXor mer key ⌝ }
+{
+    mer ^ key
+}
+
+// What the vigemin answers: the refusal, the word and its position.
+pub struct Found {
+    pub refusal: u64,
+    pub word: u64,
+    pub position: u64,
+}
+
+// The vigemin of a k-mer: the least m-mer so far is replaced only by a strictly lesser one.
+fn least_mer(k: u64, m: u64, key: u64, kmer: u64) -> Found
+    requires { ⌜ VigeminAccepted k m key kmer ⌝ }
+    ensures { λ r. ⌜ found r ≡ vigeminAnswer 0 (keyed (wordOf m key)) m (wordOf k kmer) ⌝ }
+{
+    let mask = words::power(m) - 1;
+    let last = k - m;
+    let mut word = (kmer >> (2 * last)) & mask;
+    let mut least = value(word, key);
+    let mut position: u64 = 0;
+    let mut p: u64 = 1;
+    while p <= last {
+        let mer = (kmer >> (2 * (last - p))) & mask;
+        let other = value(mer, key);
+        if other < least {
+            word = mer;
+            least = other;
+            position = p;
+        }
+        p += 1;
+    }
+    Found {
+        refusal: 0,
+        word,
+        position,
+    }
+}
+
+// The vigemin of a k-mer and its position. Refusals 1 to 4.
+pub fn vigemin(k: u64, m: u64, key: u64, kmer: u64) -> Found
+    ensures { λ r. ⌜ found r ≡ vigeminOutcome k m key kmer ⌝ }
+{
+    let refusal = words::order_refusal(k, m, key);
+    if refusal != 0 {
+        return Found {
+            refusal,
+            word: 0,
+            position: 0,
+        };
+    }
+    if words::too_large(k, kmer) {
+        return Found {
+            refusal: 4,
+            word: 0,
+            position: 0,
+        };
+    }
+    least_mer(k, m, key, kmer)
+}
+
+// The lesser of two numbers.
+fn lesser(a: u64, b: u64) -> u64
+    ensures { λ r. ⌜ r ≡ min a b ⌝ }
+{
+    if b < a { b } else { a }
+}
+
+// Turns each of the first entries of the ring into the least of those from its place on.
+fn suffixes(width: u64, ring: &mut [u64; 32])
+    requires { ⌜ Entries width (now ring) ⌝ }
+    ensures { λ _. ⌜ Suffixes width (now (ring .entry)) (now (ring .exit)) ⌝ }
+{
+    let mut i = width - 1;
+    let mut least = ring[i as usize];
+    while 0 < i {
+        i -= 1;
+        least = lesser(ring[i as usize], least);
+        ring[i as usize] = least;
+    }
+}
+
+// What a scan is set to: k, m and the key; how many m-mers a window has; the mask of m letters; and the side of a stamp. A stamp is a value
+// times the side plus a place below the side: the lesser of two stamps is that of the lesser value and, of equals, of the leftmost.
+struct Settings {
+    k: u64,
+    m: u64,
+    key: u64,
+    width: u64,
+    mask: u64,
+    side: u64,
+}
+
+// The settings of a scan. Two blocks of m-mers have places below 64, or below 4 where m is 30 or 31: so every stamp fits 64 bits.
+fn prepare(k: u64, m: u64, key: u64) -> Settings
+    requires { ⌜ OrderAccepted k m key ⌝ }
+    ensures { λ r. ⌜ SetTo k m key r ⌝ }
+{
+    let width = k - m + 1;
+    let mask = words::power(m) - 1;
+    let side: u64 = if m < 30 { 64 } else { 4 };
+    Settings {
+        k,
+        m,
+        key,
+        width,
+        mask,
+        side,
+    }
+}
+
+// The m letters read last, once one more is read: one letter goes out and one comes in.
+fn roll(word: u64, byte: u8, mask: u64) -> u64
+    requires { ⌜ word < 4611686018427387904 ⌝ }
+    ensures { λ r. ⌜ r ≡ bitAnd (word * 4 + codeOf byte) mask ⌝ }
+{
+    (word * 4 + words::letter(byte)) & mask
+}
+
+// An m-mer that was read, and its stamp.
+struct Mer {
+    word: u64,
+    stamp: u64,
+}
+
+// The m-mer that ends in a byte, and its stamp at a place.
+fn next_mer(s: Settings, word: u64, byte: u8, place: u64) -> Mer
+    requires { ⌜ Stampable s word place ⌝ }
+    ensures { λ r. ⌜ Stamped s word byte place r ⌝ }
+{
+    let next = roll(word, byte, s.mask);
+    let stamp = value(next, s.key) * s.side + place;
+    Mer { word: next, stamp }
+}
+
+// Reads the letters before the last one of the first m-mer.
+fn start(s: Settings, seq: &[u8]) -> u64
+    requires { ⌜ Readable s (now seq) ⌝ }
+    ensures { λ r. ⌜ r ≡ rolled (s .m) (spelled (now (seq .entry))) (s .m - 1) ⌝ }
+{
+    let before = s.m - 1;
+    let mut word: u64 = 0;
+    let mut i: u64 = 0;
+    while i < before {
+        word = roll(word, seq[i as usize], s.mask);
+        i += 1;
+    }
+    word
+}
+
+// What a scan has read up to a window: the m-mer read last; the m-mers go by blocks of a window's width, and the window begins so far behind
+// the start of a block; the least stamp of the m-mers read after that block; and the position of the window's vigemin.
+struct Reading {
+    word: u64,
+    block: u64,
+    at: u64,
+    run: u64,
+    position: u64,
+}
+
+// Reads the first window.
+fn begin(s: Settings, seq: &[u8], ring: &mut [u64; 32]) -> Reading
+    requires { ⌜ Readable s (now seq) ⌝ }
+    requires { ⌜ Filled (s .side) (s .width) (values (s .m) (s .key) (spelled (now seq))) 0 0 (now ring) ⌝ }
+    ensures { λ r. ⌜ Read s (now (seq .entry)) r (now (ring .exit)) ⌝ }
+    ensures { λ r. ⌜ r .block + r .at ≡ 0 ⌝ }
+{
+    let before = s.m - 1;
+    let mut word = start(s, seq);
+    let mut run: u64 = 18446744073709551615;
+    let mut at: u64 = 0;
+    while at < s.width {
+        let place = before + at;
+        let mer = next_mer(s, word, seq[place as usize], at);
+        word = mer.word;
+        run = lesser(run, mer.stamp);
+        ring[at as usize] = mer.stamp;
+        at += 1;
+    }
+    suffixes(s.width, ring);
+    let position = run & (s.side - 1);
+    Reading {
+        word,
+        block: 0,
+        at: 0,
+        run: 18446744073709551615,
+        position,
+    }
+}
+
+// Where a whole block was read after the last one, it becomes the last one.
+fn turned(s: Settings, r: Reading, ring: &mut [u64; 32]) -> Reading
+    requires { ⌜ Turnable s r (now ring) ⌝ }
+    ensures { λ t. ⌜ Turned s r (now (ring .entry)) t (now (ring .exit)) ⌝ }
+{
+    if r.at == s.width {
+        suffixes(s.width, ring);
+        let block = r.block + s.width;
+        return Reading {
+            word: r.word,
+            block,
+            at: 0,
+            run: 18446744073709551615,
+            position: r.position,
+        };
+    }
+    r
+}
+
+// Reads one letter more, which stands at a place of the sequence, where the block has m-mers left to be read after it.
+fn step(s: Settings, r: Reading, seq: &[u8], place: u64, ring: &mut [u64; 32]) -> Reading
+    requires { ⌜ Steppable s r (now seq) place (now ring) ⌝ }
+    ensures { λ t. ⌜ Read s (now (seq .entry)) t (now (ring .exit)) ⌝ }
+    ensures { λ t. ⌜ t .block + t .at ≡ suc (r .block + r .at) ⌝ }
+{
+    let at = r.at;
+    let mer = next_mer(s, r.word, seq[place as usize], at);
+    ring[at as usize] = mer.stamp;
+    let far = mer.stamp + s.width;
+    let run = lesser(r.run, far);
+    let next = at + 1;
+    let least = lesser(ring[next as usize], run);
+    let position = r.block + (least & (s.side - 1));
+    Reading {
+        word: mer.word,
+        block: r.block,
+        at: next,
+        run,
+        position,
+    }
+}
+
+// Reads the window after the last one.
+fn next_window(s: Settings, r: Reading, seq: &[u8], place: u64, ring: &mut [u64; 32]) -> Reading
+    requires { ⌜ Readable s (now seq) ⌝ }
+    requires { ⌜ Read s (now seq) r (now ring) ⌝ }
+    requires { ⌜ (place ≡ r .block + r .at + s .k) × (place < length (now seq)) ⌝ }
+    ensures { λ t. ⌜ Read s (now (seq .entry)) t (now (ring .exit)) ⌝ }
+    ensures { λ t. ⌜ t .block + t .at ≡ suc (r .block + r .at) ⌝ }
+{
+    let t = turned(s, r, ring);
+    step(s, t, seq, place, ring)
+}
+
+// What a scan answers: the refusal, the place of a bad letter, the number of windows.
+pub struct Scanned {
+    pub refusal: u64,
+    pub place: u64,
+    pub windows: u64,
+}
+
+// How many windows of k letters n letters have.
+fn window_count(n: u64, k: u64) -> u64
+    requires { ⌜ n ≤ 65536 ⌝ }
+    ensures { λ r. ⌜ r ≡ suc n - k ⌝ }
+{
+    if k <= n { n - k + 1 } else { 0 }
+}
+
+// The answer of a scan into room of so many entries, where each window takes so many of them.
+fn examined(k: u64, m: u64, key: u64, seq: &[u8], each: u64, room: u64) -> Scanned
+    requires { ⌜ each ≤ 4 ⌝ }
+    ensures { λ r. ⌜ Examined k m key (now (seq .entry)) each room r ⌝ }
+{
+    let refusal = words::order_refusal(k, m, key);
+    if refusal != 0 {
+        return Scanned {
+            refusal,
+            place: 0,
+            windows: 0,
+        };
+    }
+    let n = seq.len() as u64;
+    if 65536 < n {
+        return Scanned {
+            refusal: 5,
+            place: 0,
+            windows: 0,
+        };
+    }
+    let bad = words::first_bad(seq) as u64;
+    if bad < n {
+        return Scanned {
+            refusal: 6,
+            place: bad,
+            windows: 0,
+        };
+    }
+    let windows = window_count(n, k);
+    let needed = each * windows;
+    if room < needed {
+        return Scanned {
+            refusal: 7,
+            place: 0,
+            windows: 0,
+        };
+    }
+    Scanned {
+        refusal: 0,
+        place: 0,
+        windows,
+    }
+}
+
+// Writes the position for each window at the front of the room.
+fn write_positions(s: Settings, seq: &[u8], windows: u64, room: &mut [u32])
+    requires { ⌜ Writable s (now seq) windows 1 (now room) ⌝ }
+    ensures { λ _. ⌜ now (room .exit) ≡ over (positionsOf s (now (seq .entry))) (now (room .entry)) ⌝ }
+{
+    let mut ring: [u64; 32] = [18446744073709551615; 32];
+    let mut r = begin(s, seq, &mut ring);
+    room[0] = r.position as u32;
+    let mut i: u64 = 1;
+    while i < windows {
+        let place = i + s.k - 1;
+        r = next_window(s, r, seq, place, &mut ring);
+        room[i as usize] = r.position as u32;
+        i += 1;
+    }
+}
+
+// The scan of a sequence: for each window the position of its vigemin in the whole sequence. Refusals 1, 2, 3, 5, 6, 7.
+pub fn scan(k: u64, m: u64, key: u64, seq: &[u8], room: &mut [u32]) -> Scanned
+    ensures { λ r. ⌜ scanned r (now (room .exit)) ≡ scanOutcome k m key (now (seq .entry)) (now (room .entry)) ⌝ }
+{
+    let answer = examined(k, m, key, seq, 1, room.len() as u64);
+    if answer.windows == 0 {
+        return answer;
+    }
+    write_positions(prepare(k, m, key), seq, answer.windows, room);
+    answer
+}
+
+// Writes a position as four bytes, high first.
+fn put(position: u64, place: usize, room: &mut [u8])
+    requires { ⌜ place + 4 ≤ length (now room) ⌝ }
+    ensures { λ _. ⌜ now (room .exit) ≡ sets (now (room .entry)) place (bytes 4 position) ⌝ }
+{
+    room[place] = (position / 16777216 % 256) as u8;
+    room[place + 1] = (position / 65536 % 256) as u8;
+    room[place + 2] = (position / 256 % 256) as u8;
+    room[place + 3] = (position % 256) as u8;
+}
+
+// Writes the position for each window at the front of the room, as bytes.
+fn write_bytes(s: Settings, seq: &[u8], windows: u64, room: &mut [u8])
+    requires { ⌜ Writable s (now seq) windows 4 (now room) ⌝ }
+    ensures { λ _. ⌜ now (room .exit) ≡ over (asBytes (positionsOf s (now (seq .entry)))) (now (room .entry)) ⌝ }
+{
+    let mut ring: [u64; 32] = [18446744073709551615; 32];
+    let mut r = begin(s, seq, &mut ring);
+    put(r.position, 0, room);
+    let mut i: u64 = 1;
+    while i < windows {
+        let place = i + s.k - 1;
+        r = next_window(s, r, seq, place, &mut ring);
+        let to = 4 * i;
+        put(r.position, to as usize, room);
+        i += 1;
+    }
+}
+
+// The scan of a sequence into bytes: each position as four bytes, high first. Refusals 1, 2, 3, 5, 6, 7.
+pub fn scan_bytes(k: u64, m: u64, key: u64, seq: &[u8], room: &mut [u8]) -> Scanned
+    ensures { λ r. ⌜ scanned r (now (room .exit)) ≡ scanBytesOutcome k m key (now (seq .entry)) (now (room .entry)) ⌝ }
+{
+    let answer = examined(k, m, key, seq, 4, room.len() as u64);
+    if answer.windows == 0 {
+        return answer;
+    }
+    write_bytes(prepare(k, m, key), seq, answer.windows, room);
+    answer
+}
