@@ -2,21 +2,22 @@
 -- the way there and back. Then, that an answer bears the refusal that it was given.
 -- Assumes nothing.
 use Prim.Native.Nat.{ℕ, zero, suc, _-_, _*_, _^_, _≤_, _<_}
-use mathlib.Core.Bool.{true, false, not, _||_, true≢false}
+use mathlib.Core.Bool.{Bool, true, false, cond, not, _||_, true≢false}
 use mathlib.Core.List.{List, [], _∷_, _++_}
-use mathlib.Core.Path.{_≡_, refl, ap}
+use mathlib.Core.Path.{_≡_, refl, sym, ap, _∙_}
 use native.Mathlib.Nat.{zero-lt-suc, suc-ne-zero}
 use native.Mathlib.Omega.{arith}
-use borrow.Author.Tests.{ltb-false, le-ltb, leb-false, lt-leb, ne-eqb, not-false}
+use borrow.Author.Tests.{ltb-true, ltb-false, le-ltb, leb-false, lt-leb, eqb-true, ne-eqb, not-false}
 use lib.Dec.{ltb, eqb}
 use lib.ListN.{length}
 use Rattle.definitions.specs.Lists.{all}
 use Rattle.definitions.specs.Words.{word, isLetter}
 use Rattle.definitions.specs.Vigemins.{Form, keyed, windows}
 use Rattle.definitions.specs.Shelves.{size}
-use Rattle.definitions.specs.Refusals.{Ground, refusal, badKey, badWord, badSequence, badLetter, badRoom, badStart, badCounter}
-use Rattle.definitions.specs.Outcomes.{packGrounds, unpackGrounds, orderGrounds, shelfGrounds, counterGrounds, pageGrounds, scanGrounds, packAnswer, unpackAnswer, scanAnswer}
-use Rattle.laws.specs.Refusals.{refusal-unmet, unmet-refusal}
+use Rattle.definitions.specs.Refusals.{Ground, refusal, badKey, badWord, badSequence, badLetter, badRoom, badStart, badCounter, firstBad, placeBeside}
+use Rattle.definitions.specs.Outcomes.{packGrounds, unpackGrounds, orderGrounds, shelfGrounds, counterGrounds, pageGrounds, scanGrounds, packAnswer, unpackAnswer, scanAnswer, asBytes, scanBytesOutcome}
+use Rattle.laws.specs.Numbers.{firstBad-all}
+use Rattle.laws.specs.Refusals.{refusal-unmet, unmet-refusal, refusal-append, refusal-most}
 
 -- the test of a length, and of m, is not met exactly by the numbers from 1 to a top
 inside : (n top : ℕ) → (eqb n 0 || ltb top n) ≡ false → (0 < n) × (n ≤ top)
@@ -200,3 +201,51 @@ pub scanAnswer-refusal : (r : ℕ) (entries : List ℕ → List ℕ) (f : Form) 
 unfolding scanAnswer
 scanAnswer-refusal zero entries f k m s room = refl
 scanAnswer-refusal (suc r) entries f k m s room = refl
+
+-- the place in a scan's answer is the one beside its refusal
+pub scanAnswer-place : (r : ℕ) (entries : List ℕ → List ℕ) (f : Form) (k m : ℕ) (s room : List ℕ) → scanAnswer r entries f k m s room .place ≡ placeBeside r s
+unfolding scanAnswer
+scanAnswer-place zero entries f k m s room = refl
+scanAnswer-place (suc r) entries f k m s room = refl
+
+-- ---- the numbers of a refused scan are small
+
+module _ (k m key : ℕ) (s : List ℕ) (each : ℕ) (room : List ℕ) where
+  -- no number of refusal is above 7
+  pub scan-refusal-most : refusal (scanGrounds k m key s each room) ≤ 7
+  scan-refusal-most = refusal-most 7 (scanGrounds k m key s each room) refl
+
+  -- the place beside it lies in a sequence of at most 65,536 letters
+  pub scan-place-small : placeBeside (refusal (scanGrounds k m key s each room)) s < 65536
+  scan-place-small = go (eqb (refusal (scanGrounds k m key s each room)) 6) refl
+    where
+      order : ℕ
+      order = refusal (orderGrounds k m (badKey m key))
+
+      -- of 5, 6 and 7 the second is given
+      six : (t u v : Bool) → cond {A = ℕ} t 5 (cond u 6 (cond v 7 0)) ≡ 6 → (t ≡ false) × (u ≡ true)
+      six true u v e = absurd (omega arith)
+      six false true v e = (refl, refl)
+      six false false true e = absurd (omega arith)
+      six false false false e = absurd (omega arith)
+
+      -- it is given where k, m and the key are good
+      later : (t : Bool) → eqb order 0 ≡ t → cond t (refusal (scanRest k s each room)) order ≡ 6 → refusal (scanRest k s each room) ≡ 6
+      later true q e = e
+      later false q e = absurd (omega (arith, refusal-most 3 (orderGrounds k m (badKey m key)) refl))
+
+      go : (t : Bool) → eqb (refusal (scanGrounds k m key s each room)) 6 ≡ t → cond t (firstBad s) 0 < 65536
+      go false e = omega arith
+      go true e =
+          let given = refusal-append (orderGrounds k m (badKey m key)) (scanRest k s each room) {r = order} (omega arith) refl in
+          let r = later (eqb order 0) refl (sym given ∙ eqb-true (refusal (scanGrounds k m key s each room)) 6 e) in
+          let b = six (ltb 65536 (length s)) (not (all isLetter s)) (ltb (length room) (each * length (windows k s))) r in
+          omega (arith, ltb-false 65536 (length s) (b .0), ltb-true (firstBad s) (length s) (firstBad-all s ∙ b .1))
+
+-- the numbers that the scan into bytes answers beside its windows are small
+pub scanBytes-small : (k m key : ℕ) (s room : List ℕ) → (scanBytesOutcome k m key s room .refusal ≤ 7) × (scanBytesOutcome k m key s room .place < 65536)
+unfolding scanBytesOutcome
+scanBytes-small k m key s room =
+    let r = refusal (scanGrounds k m key s 4 room) in
+    let f = keyed (word m key) in
+    (rw (scanAnswer-refusal r asBytes f k m s room) (scan-refusal-most k m key s 4 room), rw (scanAnswer-place r asBytes f k m s room) (scan-place-small k m key s 4 room))
