@@ -241,6 +241,17 @@ window-cut p m k x h = rw (mask-letters m, ← four-pow (k - m - p)) (sym (windo
 pub xor-letters : (m : ℕ) {a b : ℕ} → a < 4 ^ m → b < 4 ^ m → bitXor a b < 4 ^ m
 xor-letters m {a} {b} = rw four-pow (xor-lt (2 * m) a b)
 
+-- the XOR of two numbers with so many bits behind
+pub xor-scale : (bits a b : ℕ) → bitXor (a * 2 ^ bits) (b * 2 ^ bits) ≡ bitXor a b * 2 ^ bits
+xor-scale bits a b =
+    let pos : 0 < 2 ^ bits = one-le-pow bits 2 (zero-lt-suc 1) in
+    rw (add-zero, add-zero, add-zero) at (xor-block bits a b 0 0 pos pos)
+
+-- a power of four is no less than twice its exponent
+pub twice-le-four : (n : ℕ) → n + n ≤ 4 ^ n
+twice-le-four zero = zero-le
+twice-le-four (suc n) = omega (arith, twice-le-four n, one-le-pow n 4 four-pos)
+
 -- the XOR of two numbers with n letters behind goes over what stands before them and over these letters apart
 xor-four : (n a b r s : ℕ) → r < 4 ^ n → s < 4 ^ n → bitXor (a * 4 ^ n + r) (b * 4 ^ n + s) ≡ bitXor a b * 4 ^ n + bitXor r s
 xor-four n a b r s = rw (four-pow n) (xor-block (2 * n) a b r s)

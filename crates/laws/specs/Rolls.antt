@@ -4,8 +4,9 @@
 use Prim.Native.Nat.{ℕ, zero, suc, _+_, _-_, _*_, _/_, _%_, _^_, _≤_, _<_}
 use mathlib.Core.List.{List, [], _∷_, _++_, map}
 use mathlib.Core.Path.{_≡_, refl, sym, ap, _∙_}
-use native.Mathlib.Nat.{pow-suc, pow-zero, one-mul, mul-one, add-zero, mul-add-mod-self-right, add-mul-mod-self-right, div-add-mod', add-mul, mul-right-comm, mod-eq-of-lt, mod-lt, one-le-pow}
+use native.Mathlib.Nat.{pow-suc, pow-zero, one-mul, mul-one, add-zero, mul-add-mod-self-right, add-mul-mod-self-right, div-add-mod', add-mul, mul-right-comm, mod-eq-of-lt, one-le-pow, mul-div-cancel, mul-mod-left}
 use native.Mathlib.Omega.{arith}
+use lib.Arith.{digits-div, digits-mod, mod-mul}
 use lib.Bits.{bitXor}
 use lib.ListN.{length, getD, take, drop, length-drop}
 use lib.Seq.{take-suc, take-add}
@@ -37,6 +38,20 @@ mod-more v b a n = sym (ap (λ (u : ℕ). u % n) split ∙ add-mul-mod-self-righ
 -- one letter goes out and one comes in
 pub roll-letter : (m : ℕ) (x : Word) (t : ℕ) → t < length x → (rolled m x t * 4 + getD x t 0) % 4 ^ m ≡ rolled m x (suc t)
 roll-letter m x t h = mod-more (val (take t x)) 4 (getD x t 0) (4 ^ m) ∙ ap (λ (n : ℕ). n % 4 ^ m) (sym (number-front 4 x t h))
+
+-- the remainder of multiples
+mod-scale : (a n c : ℕ) → 0 < n → 0 < c → a * c % (n * c) ≡ a % n * c
+mod-scale a n c h k = rw (mod-mul (a * c) h k, mul-div-cancel a k, mul-mod-left, add-zero)
+
+-- a letter that comes in takes the place of the last
+mod-letter : (m v c : ℕ) → c < 4 → (v * 4 + c) % 4 ^ suc m ≡ v % 4 ^ m * 4 + c
+mod-letter m v c h = rw (pow-suc, mod-mul (v * 4 + c) (one-le-pow m 4 four-pos) four-pos, digits-div v h, digits-mod v h)
+
+-- the same with words kept times a side: where 4^m times the side is the end of the numbers, what goes out is dropped there
+pub roll-high : (m side v c : ℕ) → 0 < m → 0 < side → c < 4 → v * side * 4 % (4 ^ m * side) + c * side ≡ (v * 4 + c) % 4 ^ m * side
+roll-high (suc m) side v c h k l =
+    let out : v * 4 % 4 ^ suc m ≡ v % 4 ^ m * 4 = rw (add-zero, add-zero) at (mod-letter m v 0 four-pos) in
+    rw (mul-right-comm v side 4, mod-scale (v * 4) (4 ^ suc m) side (one-le-pow (suc m) 4 four-pos) k, out, ← add-mul, mod-letter m v c l)
 
 -- the number of the m letters from a place on is that of the last m of the letters up to their end
 pub roll-mer : (m : ℕ) (x : Word) (p : ℕ) → p + m ≤ length x → Letters x → val (take m (drop p x)) ≡ rolled m x (p + m)

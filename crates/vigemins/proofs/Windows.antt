@@ -18,14 +18,14 @@ use Rattle.laws.specs.Stamps.{leastFrom, leastFrom-last, lowest-top, stamped}
 use Rattle.vigemins.specs.declared.Settings.{Settings}
 use Rattle.vigemins.specs.declared.Mer.{Mer}
 use Rattle.vigemins.specs.declared.Reading.{Reading}
-use Rattle.vigemins.specs.Readings.{top, Entries, Suffixes, Stamped, Readable, Filled, Minima, Read, Steppable, Writable, positionsOf}
+use Rattle.vigemins.specs.Readings.{top, Entries, Suffixes, Rollable, Stamped, Readable, Filled, Minima, Read, Steppable, Writable, positionsOf}
 use Rattle.vigemins.proofs.Blocks.{stamp-low, filled-entries, filled-more, filled-minima, minima-filled, minima-more, minima-place}
-use Rattle.vigemins.proofs.Letters.{rolled-small, length-mers, mers, mer-read, window-position}
+use Rattle.vigemins.proofs.Letters.{rolled-on, length-mers, mers, mer-read, window-position}
 
 -- of the first block so many m-mers were read: the word, the least so far, and the stamps in the ring
 pub record Begun (s : Settings) (seq : List ℕ) (word run at : ℕ) (ring : List ℕ) : Type 0 where
   pub within : at ≤ s .width
-  pub rolls : word ≡ rolled (s .m) (spelled seq) (s .m - 1 + at)
+  pub rolls : word ≡ rolled (s .m) (spelled seq) (s .m - 1 + at) * s .side
   pub runs : run ≡ leastFrom top (s .side) (values (s .m) (s .key) (spelled seq)) 0 0 at
   pub filled : Filled (s .side) (s .width) (values (s .m) (s .key) (spelled seq)) 0 at ring
 
@@ -77,16 +77,16 @@ module _ (s : Settings) (seq : List ℕ) (a : Readable s seq) where
       let inside = scan-inside (keyed (wordOf (s .m) (s .key))) (s .k) (s .m) (spelled seq) p (omega (arith, a .prepared .kIs, a .prepared .wide)) k in
       omega (arith, d .position, inside .1, block-inside d, a .short, a .prepared .mSome)
 
-  -- the word read last is one of m letters
-  pub word-small : {r : Reading} {ring : List ℕ} → Read s seq r ring → r .word < 4 ^ s .m
-  word-small {r} d = rw (d .word) (rolled-small (s .m) (spelled seq) (r .block + r .at + s .k))
+  -- the word read last can be rolled on
+  pub word-rollable : {r : Reading} {ring : List ℕ} → Read s seq r ring → Rollable s (r .word)
+  word-rollable {r} d = rolled-on (a .prepared) (spelled seq) (r .block + r .at + s .k) (d .word)
 
   -- the next window is read
   pub step-read : {r : Reading} {place : ℕ} {ring : List ℕ} → Steppable s r seq place ring → {mer : Mer} → Stamped s (r .word) (getD seq place 0) (r .at) mer
       → {run : ℕ} → run ≡ min (r .run) (mer .stamp + s .width) → {least : ℕ} → least ≡ min (getD (set ring (r .at) (mer .stamp)) (r .at + 1) 0) run
       → Read s seq (record { word = mer .word; block = r .block; at = r .at + 1; run = run; position = r .block + bitAnd least (s .side - 1) }) (set ring (r .at) (mer .stamp))
   step-read {r} {place} {ring} b {mer} st {run} q {least} l =
-      record { minima = more; word = got .0 ∙ ap (rolled (s .m) (spelled seq)) letters; position = position-read least more l }
+      record { minima = more; word = got .0 ∙ ap (λ (t : ℕ). rolled (s .m) (spelled seq) t * s .side) letters; position = position-read least more l }
     where
       vs : List ℕ
       vs = values (s .m) (s .key) (spelled seq)
@@ -94,7 +94,7 @@ module _ (s : Settings) (seq : List ℕ) (a : Readable s seq) where
       letters : suc place ≡ r .block + (r .at + 1) + s .k
       letters = omega (arith, b .there)
 
-      got : (mer .word ≡ rolled (s .m) (spelled seq) (suc place)) × (mer .stamp ≡ getD vs (r .block + s .width + r .at) 0 * s .side + r .at)
+      got : (mer .word ≡ rolled (s .m) (spelled seq) (suc place) * s .side) × (mer .stamp ≡ getD vs (r .block + s .width + r .at) 0 * s .side + r .at)
       got =
           mer-read s seq a place (r .block + s .width + r .at) (b .more) (omega (arith, b .there, a .prepared .kIs)) (rw (b .there) (b .read .word)) st
 
@@ -112,7 +112,7 @@ module _ (s : Settings) (seq : List ℕ) (a : Readable s seq) where
   begun-more {word} {run} {at} {ring} b h {mer} st {least} q =
       record {
         within = omega arith;
-        rolls = got .0 ∙ ap (rolled (s .m) (spelled seq)) letters;
+        rolls = got .0 ∙ ap (λ (t : ℕ). rolled (s .m) (spelled seq) t * s .side) letters;
         runs = q ∙ rw (b .runs, got .1, order, add-one) (sym (leastFrom-last top (s .side) vs 0 0 at long (stamp-low (s .side) (s .width) (4 ^ s .m) vs (mers s seq a) (0 + at) (0 + at) long (omega (arith, a .prepared .placesFit)))));
         filled = rw (got .1, add-one) (filled-more (s .side) (s .width) (4 ^ s .m) vs (mers s seq a) (b .filled) h);
       }
@@ -129,7 +129,7 @@ module _ (s : Settings) (seq : List ℕ) (a : Readable s seq) where
       order : getD vs (0 + at) 0 * s .side + at ≡ getD vs (0 + at) 0 * s .side + (0 + at)
       order = omega arith
 
-      got : (mer .word ≡ rolled (s .m) (spelled seq) (suc (s .m - 1 + at))) × (mer .stamp ≡ getD vs (0 + at) 0 * s .side + at)
+      got : (mer .word ≡ rolled (s .m) (spelled seq) (suc (s .m - 1 + at)) * s .side) × (mer .stamp ≡ getD vs (0 + at) 0 * s .side + at)
       got =
           mer-read s seq a (s .m - 1 + at) (0 + at) (omega (arith, a .long, a .prepared .kIs, a .prepared .mSome)) (omega (arith, a .prepared .mSome)) (b .rolls) st
 
@@ -143,7 +143,7 @@ module _ (s : Settings) (seq : List ℕ) (a : Readable s seq) where
   pub begun-read : {word run : ℕ} {ring new : List ℕ} → Begun s seq word run (s .width) ring → Suffixes (s .width) ring new
       → Read s seq (record { word = word; block = 0; at = 0; run = top; position = bitAnd run (s .side - 1) }) new
   begun-read {word} {run} {ring} {new} b f =
-      record { minima = none; word = b .rolls ∙ ap (rolled (s .m) (spelled seq)) letters; position = sym (zero-add (bitAnd run (s .side - 1))) ∙ position-read run none least }
+      record { minima = none; word = b .rolls ∙ ap (λ (t : ℕ). rolled (s .m) (spelled seq) t * s .side) letters; position = sym (zero-add (bitAnd run (s .side - 1))) ∙ position-read run none least }
     where
       vs : List ℕ
       vs = values (s .m) (s .key) (spelled seq)

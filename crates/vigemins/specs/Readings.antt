@@ -44,11 +44,11 @@ pub record Prepared (s : Settings) : Type 0 where
   pub kIs : s .width + s .m ≡ suc (s .k)
   pub kFew : s .k ≤ 31
   pub keySmall : s .key < 4 ^ s .m
-  pub maskIs : (n : ℕ) → bitAnd n (s .mask) ≡ n % 4 ^ s .m
-  pub stampsFit : 4 ^ s .m * s .side ≤ suc top
-  pub placesAre : (n : ℕ) → bitAnd n (s .side - 1) ≡ n % s .side
+  pub stampsFit : 4 ^ s .m * s .side ≡ suc top
   pub placesFit : s .width + s .width ≤ s .side
-  pub sideFew : s .side ≤ 64
+  pub sideFew : s .side ≤ 4 ^ 31
+  pub placesAre : (n : ℕ) → bitAnd n (s .side - 1) ≡ n % s .side
+  pub keyHigh : (v : ℕ) → bitXor (v * s .side) (s .high) ≡ bitXor v (s .key) * s .side
 
 -- the settings of a scan by some k, m and key
 pub record SetTo (k m key : ℕ) (s : Settings) : Type 0 where
@@ -57,16 +57,25 @@ pub record SetTo (k m key : ℕ) (s : Settings) : Type 0 where
   pub mIs : s .m ≡ m
   pub keyIs : s .key ≡ key
 
--- a word of m letters that can be rolled on and stamped at a place
-pub record Stampable (s : Settings) (word place : ℕ) : Type 0 where
+-- a word of m letters, kept times the side
+pub record Rollable (s : Settings) (word : ℕ) : Type 0 where
   pub prepared : Prepared s
-  pub small : word < 4 ^ s .m
-  pub inside : place < s .side
+  pub letters : ℕ
+  pub small : letters < 4 ^ s .m
+  pub high : word ≡ letters * s .side
 
--- the word rolled on by a byte, and its stamp
+-- the word of some m letters after one goes out and a byte's comes in
+abbrev pub rollOn : Settings → ℕ → ℕ → ℕ
+rollOn s v byte = (v * 4 + codeOf byte) % 4 ^ s .m
+
+-- a word rolled on by a byte, whatever its letters
+abbrev pub Rolled : Settings → ℕ → ℕ → ℕ → Type 0
+Rolled s word byte r = (v : ℕ) → word ≡ v * s .side → r ≡ rollOn s v byte * s .side
+
+-- the word rolled on by a byte, and its stamp at a place
 pub record Stamped (s : Settings) (word byte place : ℕ) (r : Mer) : Type 0 where
-  pub rolls : r .word ≡ (word * 4 + codeOf byte) % 4 ^ s .m
-  pub stamps : r .stamp ≡ bitXor (r .word) (s .key) * s .side + place
+  pub rolls : Rolled s word byte (r .word)
+  pub stamps : (v : ℕ) → word ≡ v * s .side → r .stamp ≡ bitXor (rollOn s v byte) (s .key) * s .side + place
   pub low : r .stamp + s .side ≤ suc top + place
 
 -- a sequence that a scan reads: k to 65,536 letters
@@ -100,7 +109,7 @@ pub record Minima (side width : ℕ) (vs : List ℕ) (block at run : ℕ) (ring 
 -- that of the window's vigemin
 pub record Read (s : Settings) (seq : List ℕ) (r : Reading) (ring : List ℕ) : Type 0 where
   pub minima : Minima (s .side) (s .width) (values (s .m) (s .key) (spelled seq)) (r .block) (r .at) (r .run) ring
-  pub word : r .word ≡ rolled (s .m) (spelled seq) (r .block + r .at + s .k)
+  pub word : r .word ≡ rolled (s .m) (spelled seq) (r .block + r .at + s .k) * s .side
   pub position : r .position ≡ getD (positionsOf s seq) (r .block + r .at) 0
 
 -- a reading of some sequence

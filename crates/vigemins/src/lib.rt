@@ -13,7 +13,7 @@ ghost use Rattle.laws.specs.Accepted.{VigeminAccepted, OrderAccepted};
 ghost use Rattle.laws.specs.Rolls.{rolled, values};
 ghost use Rattle.words.specs.Letters.{codeOf};
 ghost use Rattle.vigemins.specs.Answers.{found, scanned};
-ghost use Rattle.vigemins.specs.Readings.{Entries, Suffixes, SetTo, Stampable, Stamped, Readable, Filled, Read, Turnable, Turned, Steppable, Examined, Writable, positionsOf};
+ghost use Rattle.vigemins.specs.Readings.{Entries, Suffixes, SetTo, Rollable, Rolled, Stamped, Readable, Filled, Read, Turnable, Turned, Steppable, Examined, Writable, positionsOf};
 
 // The value by which an m-mer is compared: its sum with the key.
 fn value(mer: u64, key: u64) -> u64
@@ -100,41 +100,43 @@ fn suffixes(width: u64, ring: &mut [u64; 32])
     }
 }
 
-// What a scan is set to: k, m and the key; how many m-mers a window has; the mask of m letters; and the side of a stamp. A stamp is a value
-// times the side plus a place below the side: the lesser of two stamps is that of the lesser value and, of equals, of the leftmost.
+// What a scan is set to: k, m and the key; how many m-mers a window has; and the side of a stamp, which is 4^(32 - m). A stamp is a value times
+// the side plus a place below the side: the lesser of two stamps is that of the lesser value and, of equals, of the leftmost. An m-mer is kept
+// times the side, that is with its first letter in the highest bits, and so is the key.
 struct Settings {
     k: u64,
     m: u64,
     key: u64,
     width: u64,
-    mask: u64,
     side: u64,
+    high: u64,
 }
 
-// The settings of a scan. Two blocks of m-mers have places below 64, or below 4 where m is 30 or 31: so every stamp fits 64 bits.
+// The settings of a scan.
 fn prepare(k: u64, m: u64, key: u64) -> Settings
     requires { ⌜ OrderAccepted k m key ⌝ }
     ensures { λ r. ⌜ SetTo k m key r ⌝ }
 {
     let width = k - m + 1;
-    let mask = words::power(m) - 1;
-    let side: u64 = if m < 30 { 64 } else { 4 };
+    let rest = 31 - m;
+    let side = words::power(rest) * 4;
+    let high = key * side;
     Settings {
         k,
         m,
         key,
         width,
-        mask,
         side,
+        high,
     }
 }
 
-// The m letters read last, once one more is read: one letter goes out and one comes in.
-fn roll(word: u64, byte: u8, mask: u64) -> u64
-    requires { ⌜ word < 4611686018427387904 ⌝ }
-    ensures { λ r. ⌜ r ≡ bitAnd (word * 4 + codeOf byte) mask ⌝ }
+// The m letters read last, once one more is read: one letter goes out, past the highest bits, and one comes in.
+fn roll(s: Settings, word: u64, byte: u8) -> u64
+    requires { ⌜ Rollable s word ⌝ }
+    ensures { λ r. ⌜ Rolled s word byte r ⌝ }
 {
-    (word * 4 + words::letter(byte)) & mask
+    (word << 2) + words::letter(byte) * s.side
 }
 
 // An m-mer that was read, and its stamp.
@@ -145,24 +147,25 @@ struct Mer {
 
 // The m-mer that ends in a byte, and its stamp at a place.
 fn next_mer(s: Settings, word: u64, byte: u8, place: u64) -> Mer
-    requires { ⌜ Stampable s word place ⌝ }
+    requires { ⌜ Rollable s word ⌝ }
+    requires { ⌜ place < s .side ⌝ }
     ensures { λ r. ⌜ Stamped s word byte place r ⌝ }
 {
-    let next = roll(word, byte, s.mask);
-    let stamp = value(next, s.key) * s.side + place;
+    let next = roll(s, word, byte);
+    let stamp = value(next, s.high) + place;
     Mer { word: next, stamp }
 }
 
 // Reads the letters before the last one of the first m-mer.
 fn start(s: Settings, seq: &[u8]) -> u64
     requires { ⌜ Readable s (now seq) ⌝ }
-    ensures { λ r. ⌜ r ≡ rolled (s .m) (spelled (now (seq .entry))) (s .m - 1) ⌝ }
+    ensures { λ r. ⌜ r ≡ rolled (s .m) (spelled (now (seq .entry))) (s .m - 1) * s .side ⌝ }
 {
     let before = s.m - 1;
     let mut word: u64 = 0;
     let mut i: u64 = 0;
     while i < before {
-        word = roll(word, seq[i as usize], s.mask);
+        word = roll(s, word, seq[i as usize]);
         i += 1;
     }
     word

@@ -1,12 +1,11 @@
 -- Letters by arithmetic.
 -- Assumes nothing.
-use Prim.Native.Nat.{ℕ, _/_, _%_, _<_}
+use Prim.Native.Nat.{ℕ, _*_, _/_, _%_, _<_}
 use mathlib.Core.Bool.{true}
 use mathlib.Core.List.{List}
 use mathlib.Core.Path.{_≡_, refl, ap, sym, _∙_}
 use native.Mathlib.Nat.{mod-lt}
 use borrow.Author.Tests.{eqb-true, ltb-true}
-use lib.Bits.{bitXor}
 use lib.Dec.{eqb}
 use lib.ListN.{length, getD}
 use Rattle.definitions.specs.Lists.{all}
@@ -16,11 +15,11 @@ use Rattle.laws.specs.Numbers.{four-pos, each-letter, letter-written}
 
 -- the letter that a byte is read as, by arithmetic: of a letter's byte, the letter
 abbrev pub codeOf : ℕ → ℕ
-codeOf byte = bitXor (byte / 2) (byte / 4) % 4
+codeOf byte = byte * 3 / 8 % 4
 
 -- it is a letter
 pub code-lt : (byte : ℕ) → codeOf byte < 4
-code-lt byte = mod-lt (bitXor (byte / 2) (byte / 4)) four-pos
+code-lt byte = mod-lt (byte * 3 / 8) four-pos
 
 -- the arithmetic reads every letter right
 pub code-letter : (byte : ℕ) → isLetter byte ≡ true → codeOf byte ≡ letterOf byte

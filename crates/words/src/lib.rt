@@ -95,8 +95,7 @@ pub fn is_letter(byte: u8) -> bool
 pub fn letter(byte: u8) -> u64
     ensures { λ r. ⌜ r ≡ codeOf byte ⌝ }
 {
-    let b = byte as u64;
-    ((b >> 1) ^ (b >> 2)) % 4
+    (byte as u64) * 3 / 8 % 4
 }
 
 // Whether every byte is a letter. It goes through to the end, so that several bytes can be tested at once.

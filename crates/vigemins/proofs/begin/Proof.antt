@@ -9,8 +9,8 @@ use borrow.Author.Needs.{needs}
 use lib.ListN.{length, getD}
 use Rattle.definitions.specs.Words.{spelled}
 use Rattle.laws.specs.Rolls.{rolled, values}
-use Rattle.vigemins.specs.Readings.{Prepared, Readable, Stampable, Read}
-use Rattle.vigemins.proofs.Letters.{rolled-small}
+use Rattle.vigemins.specs.Readings.{Readable, Read}
+use Rattle.vigemins.proofs.Letters.{rolled-on}
 use Rattle.vigemins.proofs.Windows.{Begun, begun-more, begun-entries, begun-read}
 use Rattle.vigemins.proofs.begin.Statement.{statement}
 use Rattle.vigemins.proofs.begin.Tie as tie
@@ -47,11 +47,7 @@ next-mer-requires c κs =
     let start = c .before .before .before .before .before .before .before in
     let p = start .pre .0 .prepared in
     let at = c .before .before .before .loop in
-    record {
-      prepared = p;
-      small = rw (at .inv .rolls) (rolled-small (start .args .s .m) (spelled (start .args .seq .now)) (start .args .s .m - 1 + at .at));
-      inside = omega (arith, p .placesFit);
-    }
+    (rolled-on p (spelled (start .args .seq .now)) (start .args .s .m - 1 + at .at) (at .inv .rolls), omega (arith, p .placesFit))
 
 lesser-requires : tie.Need-lesser-requires Inv-loop μ-loop
 lesser-requires c κs = tt

@@ -1,47 +1,50 @@
--- `vigemins::next_mer` meets its contract: a word of m letters rolled on is one of m letters, and so is its sum with the key.
+-- `vigemins::next_mer` meets its contract: the sum with the key goes over the letters, and what stands behind them is the place.
 -- Assumes nothing.
 use Prim.Native.Nat.{ℕ, suc, _+_, _*_, _%_, _^_, _≤_, _<_}
 use mathlib.Core.Path.{_≡_, refl, sym, _∙_}
-use native.Mathlib.Nat.{pow-le-pow-right, mod-lt, one-le-pow, lt-of-lt-of-le, mul-le-mul-right, suc-mul}
+use native.Mathlib.Nat.{mod-lt, one-le-pow, mul-le-mul-right, suc-mul}
 use native.Mathlib.Omega.{arith}
 use borrow.Author.Needs.{needs}
 use lib.Bits.{bitXor}
 use Rattle.laws.specs.Numbers.{four-pos, xor-letters}
 use Rattle.words.specs.Letters.{codeOf}
-use Rattle.vigemins.specs.Readings.{top, Prepared, Stampable}
+use Rattle.vigemins.specs.declared.Settings.{Settings}
+use Rattle.vigemins.specs.Readings.{top, Prepared, Rolled, rollOn}
 use Rattle.vigemins.proofs.next_mer.Statement.{statement}
 use Rattle.vigemins.proofs.next_mer.Tie as tie
 
+module _ {s : Settings} (p : Prepared s) (byte : ℕ) {word next keyed : ℕ} (r : Rolled s word byte next) (e : keyed ≡ bitXor next (s .high)) where
+  -- the value, times the side
+  value-high : (v : ℕ) → word ≡ v * s .side → keyed ≡ bitXor (rollOn s v byte) (s .key) * s .side
+  value-high v h = e ∙ rw (r v h) (p .keyHigh (rollOn s v byte))
+
+  -- every place below the side can stand behind it
+  fits : (v : ℕ) → word ≡ v * s .side → keyed + s .side ≤ suc top
+  fits v h =
+      let small : bitXor (rollOn s v byte) (s .key) < 4 ^ s .m = xor-letters (s .m) (mod-lt (v * 4 + codeOf byte) (one-le-pow (s .m) 4 four-pos)) (p .keySmall) in
+      omega (arith, value-high v h, p .stampsFit, mul-le-mul-right (s .side) small, suc-mul (bitXor (rollOn s v byte) (s .key)) (s .side))
+
 roll-requires : tie.Need-roll-requires
-roll-requires c κs =
-    let p = c .pre .prepared in
-    lt-of-lt-of-le (c .pre .small) (pow-le-pow-right four-pos {j = 31} (omega (arith, p .wide, p .kIs, p .kFew)))
+roll-requires c κs = search needs
 
 value-requires : tie.Need-value-requires
 value-requires c κs = search needs
 
--- the stamp, and every other one of its value, is at most the top
-fits : (c : tie.After-struct-known) → (let s = c .before .before .before .args .s in c .before .value .result * s .side + s .side ≤ suc top)
-fits c =
-    let start = c .before .before .before in
-    let s = start .args .s in
-    let p = start .pre .prepared in
-    let next : ℕ = start .args .word * 4 + codeOf (start .args .byte) in
-    let word : c .before .before .roll .result < 4 ^ s .m =
-    rw (c .before .before .roll .ensures ∙ p .maskIs next) (mod-lt next (one-le-pow (s .m) 4 four-pos)) in
-    let small : c .before .value .result < 4 ^ s .m = rw (c .before .value .ensures) (xor-letters (s .m) word (p .keySmall)) in
-    omega (arith, p .stampsFit, mul-le-mul-right (s .side) small, suc-mul (c .before .value .result) (s .side))
-
-mul-stamp : tie.Need-mul-stamp
-mul-stamp c = omega (arith, fits c)
-
 add-stamp : tie.Need-add-stamp
-add-stamp c = omega (arith, fits c, c .before .before .before .pre .inside)
+add-stamp c =
+    let start = c .before .before in
+    let w = start .pre .0 in
+    omega (arith, fits (w .prepared) (start .args .byte) (c .before .roll .ensures) (c .value .ensures) (w .letters) (w .high), start .pre .1)
 
 returns : tie.Need-returns
 returns c =
-    let p = c .before .before .before .pre .prepared in
-    record { rolls = c .before .before .roll .ensures ∙ p .maskIs _; stamps = rw (c .before .value .ensures); low = omega (arith, fits c) }
+    let start = c .before .before in
+    let w = start .pre .0 in
+    record {
+      rolls = c .before .roll .ensures;
+      stamps = λ v h. rw (value-high (w .prepared) (start .args .byte) (c .before .roll .ensures) (c .value .ensures) v h);
+      low = omega (arith, fits (w .prepared) (start .args .byte) (c .before .roll .ensures) (c .value .ensures) (w .letters) (w .high));
+    }
 
 pub next-mer-spec : {M : Type 1} → statement M
-next-mer-spec = tie.close (tie.spec roll-requires value-requires mul-stamp add-stamp returns)
+next-mer-spec = tie.close (tie.spec roll-requires value-requires add-stamp returns)

@@ -1,29 +1,47 @@
--- `vigemins::prepare` meets its contract: the side is a power of two above the places of two blocks, and a stamp of m letters with such a
--- side fits 64 bits.
+-- `vigemins::prepare` meets its contract: the side is 4^(32 - m), which is above the places of two blocks, and 4^m times the side is 2^64.
 -- Assumes nothing.
 use Prim.Native.Nat.{ℕ, suc, _+_, _-_, _*_, _^_, _≤_, _<_}
-use mathlib.Core.Path.{_≡_, refl, sym, _∙_}
-use native.Mathlib.Nat.{pow-le-pow-right, mul-le-mul-right, one-le-pow, le-trans}
+use mathlib.Core.Path.{_≡_, refl, sym, ap, _∙_}
+use native.Mathlib.Nat.{pow-suc, pow-le-pow-right, one-le-pow, mul-le-mul-right, suc-mul}
 use native.Mathlib.Omega.{arith}
 use borrow.Author.Needs.{needs}
 use borrow.Author.Tests.{le-leb}
 use lib.Bits.{and-mask}
+use lib.Pow.{pow-add}
 use Rattle.laws.specs.Accepted.{OrderAccepted}
-use Rattle.laws.specs.Numbers.{four-pos, mask-letters}
+use Rattle.laws.specs.Numbers.{four-pos, four-pow, xor-scale, twice-le-four}
 use Rattle.words.specs.Powers.{powerOutcome}
-use Rattle.vigemins.specs.Readings.{top, Prepared, SetTo}
+use Rattle.vigemins.specs.Readings.{top, SetTo}
 use Rattle.vigemins.proofs.prepare.Statement.{statement}
 use Rattle.vigemins.proofs.prepare.Tie as tie
 
-module _ (k m key : ℕ) (a : OrderAccepted k m key) where
-  -- the power that is read
-  power-is : {p : ℕ} → p ≡ powerOutcome m → p ≡ 4 ^ m
-  power-is e = rw (le-leb m 31 (omega (arith, a .mFits, a .kFew))) at e
+module _ {k m key power : ℕ} (a : OrderAccepted k m key) (e : power ≡ powerOutcome (31 - m)) where
+  -- the side is a power of four
+  side-is : power * 4 ≡ 4 ^ suc (31 - m)
+  side-is = rw (e, le-leb (31 - m) 31 (omega arith), pow-suc)
 
-  -- the settings with a side of 2^bits, which serves up to the length mMost
-  set-to : (bits mMost : ℕ) {p : ℕ} → p ≡ powerOutcome m → m ≤ mMost → 4 ^ mMost * 2 ^ bits ≤ suc top → (k - m + 1) + (k - m + 1) ≤ 2 ^ bits → 2 ^ bits ≤ 64
-      → SetTo k m key (record { k = k; m = m; key = key; width = k - m + 1; mask = p - 1; side = 2 ^ bits })
-  set-to bits mMost e h f w l =
+  -- as many letters as fill 64 bits
+  side-fills : 4 ^ m * (power * 4) ≡ suc top
+  side-fills =
+      let all : m + suc (31 - m) ≡ 32 = omega (arith, a .mFits, a .kFew) in
+      rw (side-is, ← pow-add 4 m (suc (31 - m)), all)
+
+  -- of 62 bits at most
+  side-few : power * 4 ≤ 4 ^ 31
+  side-few = rw side-is (pow-le-pow-right four-pos {j = 31} (omega (arith, a .mSome)))
+
+  -- it is not 0
+  side-some : 0 < power * 4
+  side-some = rw side-is (one-le-pow (suc (31 - m)) 4 four-pos)
+
+  -- the key times the side fits
+  key-high : key * (power * 4) + power * 4 ≤ suc top
+  key-high = omega (arith, side-fills, mul-le-mul-right (power * 4) (a .keySmall), suc-mul key (power * 4))
+
+  -- the settings
+  set-to : SetTo k m key (record { k = k; m = m; key = key; width = k - m + 1; side = power * 4; high = key * (power * 4) })
+  set-to =
+      let bits : power * 4 ≡ 2 ^ (2 * suc (31 - m)) = side-is ∙ four-pow (suc (31 - m)) in
       record {
         prepared =
             record {
@@ -32,11 +50,11 @@ module _ (k m key : ℕ) (a : OrderAccepted k m key) where
               kIs = omega (arith, a .mFits);
               kFew = a .kFew;
               keySmall = a .keySmall;
-              maskIs = λ n. rw (power-is e) (mask-letters m n);
-              stampsFit = le-trans (mul-le-mul-right (2 ^ bits) (pow-le-pow-right four-pos h)) f;
-              placesAre = λ n. and-mask n bits;
-              placesFit = w;
-              sideFew = l;
+              stampsFit = side-fills;
+              placesFit = rw side-is (omega (arith, twice-le-four (suc (31 - m)), a .kFew, a .mFits));
+              sideFew = side-few;
+              placesAre = λ n. rw bits (and-mask n (2 * suc (31 - m)));
+              keyHigh = λ v. rw bits (xor-scale (2 * suc (31 - m)) v key);
             };
         kIs = refl;
         mIs = refl;
@@ -49,23 +67,25 @@ sub-width c = search needs
 add-width : tie.Need-add-width
 add-width c = search needs
 
+sub-rest : tie.Need-sub-rest
+sub-rest c = search needs
+
 power-requires : tie.Need-power-requires
 power-requires c κs = search needs
 
-sub-mask : tie.Need-sub-mask
-sub-mask c =
-    let args = c .before .args in
-    rw (power-is (args .k) (args .m) (args .key) (c .before .pre) (c .power .ensures)) (one-le-pow (args .m) 4 four-pos)
+mul-side : tie.Need-mul-side
+mul-side c =
+    let start = c .before in
+    omega (arith, side-few (start .pre) (c .power .ensures))
+
+mul-high : tie.Need-mul-high
+mul-high c =
+    let start = c .before in
+    omega (arith, key-high (start .pre) (c .power .ensures), side-some (start .pre) (c .power .ensures))
 
 returns : tie.Need-returns
-returns c =
-    let start = c .before .before in
-    set-to (start .args .k) (start .args .m) (start .args .key) (start .pre) 6 29 (c .before .power .ensures) (omega arith) (omega arith) (omega (arith, start .pre .kFew, start .pre .mSome)) (omega arith)
-
-returns-2 : tie.Need-returns-2
-returns-2 c =
-    let start = c .before .before in
-    set-to (start .args .k) (start .args .m) (start .args .key) (start .pre) 2 31 (c .before .power .ensures) (omega (arith, start .pre .kFew, start .pre .mFits)) (omega arith) (omega (arith, start .pre .kFew)) (omega arith)
+returns c = set-to (c .before .pre) (c .power .ensures)
 
 pub prepare-spec : {M : Type 1} → statement M
-prepare-spec = tie.close (tie.spec sub-width add-width power-requires sub-mask returns returns-2)
+prepare-spec =
+    tie.close (tie.spec sub-width add-width sub-rest power-requires mul-side mul-high returns)

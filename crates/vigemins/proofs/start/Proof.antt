@@ -2,22 +2,21 @@
 -- Assumes nothing.
 use Prim.Native.Nat.{ℕ, suc, _+_, _-_, _*_, _%_, _^_, _≤_, _<_}
 use mathlib.Core.List.{List}
-use mathlib.Core.Path.{_≡_, refl, sym, _∙_}
-use native.Mathlib.Nat.{zero-mod}
+use mathlib.Core.Path.{_≡_, sym, ap, _∙_}
+use native.Mathlib.Nat.{zero-mod, zero-mul}
 use native.Mathlib.Numerals.{add-one}
 use native.Mathlib.Omega.{arith}
 use borrow.Author.Needs.{needs}
-use lib.ListN.{length, getD, length-map}
+use lib.ListN.{length}
 use Rattle.definitions.specs.Words.{spelled}
-use Rattle.laws.specs.Rolls.{rolled, roll-letter}
-use Rattle.words.specs.Letters.{codeOf, code-spelled}
-use Rattle.vigemins.specs.Readings.{Prepared, Readable}
-use Rattle.vigemins.proofs.Letters.{rolled-low}
+use Rattle.laws.specs.Rolls.{rolled}
+use Rattle.vigemins.specs.Readings.{Readable}
+use Rattle.vigemins.proofs.Letters.{rolled-on, letter-read}
 use Rattle.vigemins.proofs.start.Statement.{statement}
 use Rattle.vigemins.proofs.start.Tie as tie
 
 abbrev Inv-loop : tie.InvT-loop
-Inv-loop s seq before word₀ i₀ word i = (i ≤ s .m - 1) × (word ≡ rolled (s .m) (spelled seq) i)
+Inv-loop s seq before word₀ i₀ word i = (i ≤ s .m - 1) × (word ≡ rolled (s .m) (spelled seq) i * s .side)
 
 abbrev μ-loop : tie.MeasureT-loop
 μ-loop s seq before word₀ i₀ word i = s .m - i
@@ -26,7 +25,9 @@ sub-before : tie.Need-sub-before Inv-loop μ-loop
 sub-before c = c .before .before .pre .prepared .mSome
 
 loop-holds : tie.Need-loop-holds Inv-loop μ-loop
-loop-holds c = (omega arith, sym (zero-mod (4 ^ c .before .before .args .s .m)))
+loop-holds c =
+    let s = c .before .before .args .s in
+    (omega arith, sym (rw (zero-mod, zero-mul)))
 
 shared-slice-read-roll : tie.Need-shared-slice-read-roll Inv-loop μ-loop
 shared-slice-read-roll c =
@@ -36,7 +37,7 @@ shared-slice-read-roll c =
 roll-requires : tie.Need-roll-requires Inv-loop μ-loop
 roll-requires c κs =
     let start = c .before .before .before .before .before in
-    rw (c .before .before .loop .inv .1) (rolled-low (start .args .s) (start .pre .prepared) (spelled (start .args .seq .now)) (c .before .before .loop .i))
+    rolled-on (start .pre .prepared) (spelled (start .args .seq .now)) (c .before .before .loop .i) (c .before .before .loop .inv .1)
 
 add-i : tie.Need-add-i Inv-loop μ-loop
 add-i c =
@@ -53,11 +54,8 @@ loop-again c =
     let s = start .args .s in
     let seq = start .args .seq .now in
     let a = start .pre in
-    let h : at .i < length seq = omega (arith, a .long, a .prepared .kIs, a .prepared .wide) in (
-      omega arith,
-      c .roll .ensures ∙ a .prepared .maskIs (at .word * 4 + codeOf (getD seq (at .i) 0))
-          ∙ rw (at .inv .1, code-spelled seq (at .i) (a .allLetters) h, add-one) (roll-letter (s .m) (spelled seq) (at .i) (rw length-map h)),
-    )
+    let h : at .i < length seq = omega (arith, a .long, a .prepared .kIs, a .prepared .wide) in
+    (omega arith, c .roll .ensures (rolled (s .m) (spelled seq) (at .i)) (at .inv .1) ∙ rw add-one (ap (λ (n : ℕ). n * s .side) (letter-read s seq a (at .i) h)))
 
 returns : tie.Need-returns Inv-loop μ-loop
 returns c =

@@ -6,8 +6,7 @@ use mathlib.Core.Path.{_≡_, refl}
 use native.Mathlib.Omega.{arith}
 use borrow.Author.Needs.{needs}
 use lib.Bits.{bitAnd, and-le-r}
-use Rattle.vigemins.specs.Readings.{Stampable}
-use Rattle.vigemins.proofs.Windows.{block-inside, word-small, step-read}
+use Rattle.vigemins.proofs.Windows.{block-inside, word-rollable, step-read}
 use Rattle.vigemins.proofs.step.Statement.{statement}
 use Rattle.vigemins.proofs.step.Tie as tie
 
@@ -17,8 +16,7 @@ shared-slice-read-next-mer c = search needs
 next-mer-requires : tie.Need-next-mer-requires
 next-mer-requires c κs =
     let start = c .before .before in
-    let p = start .pre .readable .prepared in
-    record { prepared = p; small = word-small (start .args .s) (start .args .seq .now) (start .pre .readable) (start .pre .read); inside = omega (arith, start .pre .inside, p .placesFit) }
+    (word-rollable (start .args .s) (start .args .seq .now) (start .pre .readable) (start .pre .read), omega (arith, start .pre .inside, start .pre .readable .prepared .placesFit))
 
 mul-ring : tie.Need-mul-ring
 mul-ring c = search needs
