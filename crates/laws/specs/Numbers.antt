@@ -120,11 +120,6 @@ digits-part b p m k x h = rw (drop-digits, take-digits b m (k - p) x (omega arit
 pub window-number : (p m k x : ℕ) → p + m ≤ k → val (take m (drop p (word k x))) ≡ x / 4 ^ (k - m - p) % 4 ^ m
 window-number p m k x h = ap val (digits-part 4 p m k x h) ∙ number-digits four-pos m (x / 4 ^ (k - m - p))
 
--- the number after one digit goes out in front and one comes in behind
-pub roll-number : (b a c : ℕ) (u : List ℕ) → Digits b u → number b (u ++ (c ∷ [])) ≡ number b (a ∷ u) % b ^ length u * b + c
-roll-number b a c u h =
-    number-append b u (c ∷ []) ∙ rw (digits-mod a (number-lt b u h), pow-suc b 0, pow-zero, one-mul, mul-one, add-zero)
-
 -- x is below y, or, where that is asked, at most y
 abbrev pub atMost : Bool → ℕ → ℕ → Bool
 atMost false x y = ltb x y

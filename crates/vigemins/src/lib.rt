@@ -15,6 +15,9 @@ ghost use Rattle.words.specs.Letters.{codeOf};
 ghost use Rattle.vigemins.specs.Answers.{found, scanned};
 ghost use Rattle.vigemins.specs.Readings.{Entries, Suffixes, SetTo, Rollable, Rolled, Stamped, Readable, Filled, Read, Turnable, Turned, Steppable, Examined, Writable, positionsOf};
 
+// The largest number of 64 bits: no stamp is above it.
+const TOP: u64 = 18446744073709551615;
+
 // The value by which an m-mer is compared: its sum with the key.
 fn value(mer: u64, key: u64) -> u64
     ensures { λ r. ⌜ r ≡ bitXor mer key ⌝ }
@@ -190,7 +193,7 @@ fn begin(s: Settings, seq: &[u8], ring: &mut [u64; 32]) -> Reading
 {
     let before = s.m - 1;
     let mut word = start(s, seq);
-    let mut run: u64 = 18446744073709551615;
+    let mut run: u64 = TOP;
     let mut at: u64 = 0;
     while at < s.width {
         let place = before + at;
@@ -206,7 +209,7 @@ fn begin(s: Settings, seq: &[u8], ring: &mut [u64; 32]) -> Reading
         word,
         block: 0,
         at: 0,
-        run: 18446744073709551615,
+        run: TOP,
         position,
     }
 }
@@ -223,7 +226,7 @@ fn turned(s: Settings, r: Reading, ring: &mut [u64; 32]) -> Reading
             word: r.word,
             block,
             at: 0,
-            run: 18446744073709551615,
+            run: TOP,
             position: r.position,
         };
     }
@@ -302,6 +305,8 @@ fn examined(k: u64, m: u64, key: u64, seq: &[u8], each: u64, room: u64) -> Scann
         };
     }
     let bad = words::first_bad(seq) as u64;
+    let windows = window_count(n, k);
+    let needed = each * windows;
     if bad < n {
         return Scanned {
             refusal: 6,
@@ -309,8 +314,6 @@ fn examined(k: u64, m: u64, key: u64, seq: &[u8], each: u64, room: u64) -> Scann
             windows: 0,
         };
     }
-    let windows = window_count(n, k);
-    let needed = each * windows;
     if room < needed {
         return Scanned {
             refusal: 7,
@@ -330,7 +333,7 @@ fn write_positions(s: Settings, seq: &[u8], windows: u64, room: &mut [u32])
     requires { ⌜ Writable s (now seq) windows 1 (now room) ⌝ }
     ensures { λ _. ⌜ now (room .exit) ≡ over (positionsOf s (now (seq .entry))) (now (room .entry)) ⌝ }
 {
-    let mut ring: [u64; 32] = [18446744073709551615; 32];
+    let mut ring: [u64; 32] = [TOP; 32];
     let mut r = begin(s, seq, &mut ring);
     room[0] = r.position as u32;
     let mut i: u64 = 1;
@@ -370,7 +373,7 @@ fn write_bytes(s: Settings, seq: &[u8], windows: u64, room: &mut [u8])
     requires { ⌜ Writable s (now seq) windows 4 (now room) ⌝ }
     ensures { λ _. ⌜ now (room .exit) ≡ over (asBytes (positionsOf s (now (seq .entry)))) (now (room .entry)) ⌝ }
 {
-    let mut ring: [u64; 32] = [18446744073709551615; 32];
+    let mut ring: [u64; 32] = [TOP; 32];
     let mut r = begin(s, seq, &mut ring);
     put(r.position, 0, room);
     let mut i: u64 = 1;
@@ -387,10 +390,10 @@ fn write_bytes(s: Settings, seq: &[u8], windows: u64, room: &mut [u8])
 pub fn scan_bytes(k: u64, m: u64, key: u64, seq: &[u8], room: &mut [u8]) -> Scanned
     ensures { λ r. ⌜ scanned r (now (room .exit)) ≡ scanBytesOutcome k m key (now (seq .entry)) (now (room .entry)) ⌝ }
 {
-    let answer = examined(k, m, key, seq, 4, room.len() as u64);
-    if answer.windows == 0 {
-        return answer;
+    let outcome = examined(k, m, key, seq, 4, room.len() as u64);
+    if outcome.windows == 0 {
+        return outcome;
     }
-    write_bytes(prepare(k, m, key), seq, answer.windows, room);
-    answer
+    write_bytes(prepare(k, m, key), seq, outcome.windows, room);
+    outcome
 }

@@ -65,41 +65,50 @@ first-bad-requires c κs = search needs
 bad-letter : (t : List ℕ) {place : ℕ} {b : Bool} → place ≡ firstBad t → ltb place (length t) ≡ b → not (all isLetter t) ≡ b
 bad-letter t e l = sym (firstBad-all t) ∙ rw e at l
 
-returns-3 : tie.Need-returns-3
-returns-3 c =
-    let s = c .before .before .before .before .before .before .args .seq .now in
-    let bad : not (all isLetter s) ≡ true = bad-letter s (c .before .first-bad .ensures) (lt-ltb (c .before .first-bad .result) (length s) (c .if3 .taken)) in
-    record {
-      refuses = sym (given (c .before .before .before .before) ∙ rw (c .before .before .before .if1 .left, le-ltb 65536 (length s) (c .before .before .if2 .left), bad));
-      places = c .before .first-bad .ensures;
-      counts = refl;
-    }
-
 window-count-requires : tie.Need-window-count-requires
 window-count-requires c κs = search needs
 
 mul-needed : tie.Need-mul-needed
 mul-needed c =
-    let a = c .before .before .before .before .before .before .before in
-    omega (arith, c .window-count .ensures, mul-le-mul-right (c .window-count .result) (a .pre))
+    let start = c .before .before .before .before .before .before in
+    omega (arith, c .window-count .ensures, mul-le-mul-right (c .window-count .result) (start .pre))
 
--- where the letters are good only the room is left to be tested
-left-room : (c : tie.After-window-count)
+-- where k, m, the key and the length are good, the letters and the room are left to be tested
+left : (c : tie.After-window-count) {bad : Bool}
+    → (let a = c .before .before .before .before .before .before .args in
+    not (all isLetter (a .seq .now)) ≡ bad
+    → refusal (sequenceGrounds (a .k) (a .m) (a .key) (a .seq .now) ++ (badRoom (a .each * length (windows (a .k) (a .seq .now))) (a .room) ∷ []))
+    ≡ cond bad 6 (cond (ltb (a .room) (a .each * c .window-count .result)) 7 0))
+left c e =
+    let s = c .before .before .before .before .before .before .args .seq .now in
+    given (c .before .before .before .before)
+    ∙ rw (c .before .before .before .if1 .left, le-ltb 65536 (length s) (c .before .before .if2 .left), e, length-windows, c .window-count .ensures)
+
+returns-3 : tie.Need-returns-3
+returns-3 c =
+    let s = c .before .before .before .before .before .before .before .args .seq .now in
+    let f = c .before .before .first-bad in
+    record {
+      refuses = sym (left (c .before) (bad-letter s (f .ensures) (lt-ltb (f .result) (length s) (c .if3 .taken))));
+      places = f .ensures;
+      counts = refl;
+    }
+
+-- where the letters are good only the room is left
+left-room : (c : tie.Else3)
     → (let a = c .before .before .before .before .before .before .before .args in
     refusal (sequenceGrounds (a .k) (a .m) (a .key) (a .seq .now) ++ (badRoom (a .each * length (windows (a .k) (a .seq .now))) (a .room) ∷ []))
-    ≡ cond (ltb (a .room) (a .each * c .window-count .result)) 7 0)
+    ≡ cond (ltb (a .room) (a .each * c .before .window-count .result)) 7 0)
 left-room c =
-    let a = c .before .before .before .before .before .before .before .args in
-    let s = a .seq .now in
-    let good : not (all isLetter s) ≡ false = bad-letter s (c .before .before .first-bad .ensures) (le-ltb (c .before .before .first-bad .result) (length s) (c .before .if3 .left)) in
-    given (c .before .before .before .before .before)
-    ∙ rw (c .before .before .before .before .if1 .left, le-ltb 65536 (length s) (c .before .before .before .if2 .left), good, length-windows, c .window-count .ensures)
+    let s = c .before .before .before .before .before .before .before .args .seq .now in
+    let f = c .before .before .first-bad in
+    left (c .before) (bad-letter s (f .ensures) (le-ltb (f .result) (length s) (c .if3 .left)))
 
 returns-4 : tie.Need-returns-4
 returns-4 c =
     let a = c .before .before .before .before .before .before .before .before .args in
     record {
-      refuses = sym (left-room (c .before) ∙ rw (lt-ltb (a .room) (a .each * c .before .window-count .result) (c .if4 .taken)));
+      refuses = sym (left-room (c .before) ∙ rw (lt-ltb (a .room) (a .each * c .before .before .window-count .result) (c .if4 .taken)));
       places = refl;
       counts = refl;
     }
@@ -108,9 +117,9 @@ returns-5 : tie.Need-returns-5
 returns-5 c =
     let a = c .before .before .before .before .before .before .before .before .args in
     record {
-      refuses = sym (left-room (c .before) ∙ rw (le-ltb (a .room) (a .each * c .before .window-count .result) (c .if4 .left)));
+      refuses = sym (left-room (c .before) ∙ rw (le-ltb (a .room) (a .each * c .before .before .window-count .result) (c .if4 .left)));
       places = refl;
-      counts = c .before .window-count .ensures ∙ sym (length-windows (a .k) (a .seq .now));
+      counts = c .before .before .window-count .ensures ∙ sym (length-windows (a .k) (a .seq .now));
     }
 
 pub examined-spec : {M : Type 1} → statement M
@@ -121,8 +130,8 @@ examined-spec =
     returns
     returns-2
     first-bad-requires
-    returns-3
     window-count-requires
     mul-needed
+    returns-3
     returns-4
     returns-5)
