@@ -4,7 +4,7 @@ use Prim.Native.Nat.{ℕ, zero, suc, _+_, _-_, _*_, _/_, _%_, _^_, _≤_, _<_, z
 use mathlib.Core.Bool.{Bool, true, false, not, _&&_, _||_}
 use mathlib.Core.List.{List, [], _∷_, _++_}
 use mathlib.Core.Path.{_≡_, refl, sym, ap, ap₂, _∙_}
-use native.Mathlib.Nat.{zero-lt-suc, le-of-suc-le-suc, not-suc-le-zero, pow-zero, pow-succ', mod-lt, mod-one, one-le-pow, mod-eq-of-lt, zero-mul, zero-add, suc-ne-zero, suc-inj, sub-zero, zero-sub, suc-sub-suc, sub-add-cancel, sub-right-comm, div-div-eq-div-mul, mul-suc, pow-suc, one-mul, mul-one, add-zero, lt-of-le-of-lt, add-mul, mul-assoc, add-assoc, add-suc, suc-mul, mul-le-mul-right, le-of-lt}
+use native.Mathlib.Nat.{zero-lt-suc, le-of-suc-le-suc, not-suc-le-zero, pow-zero, pow-succ', mod-lt, mod-one, one-le-pow, mod-eq-of-lt, zero-mul, zero-add, suc-ne-zero, suc-inj, sub-zero, zero-sub, suc-sub-suc, sub-add-cancel, sub-right-comm, div-div-eq-div-mul, mul-suc, pow-suc, add-zero, lt-of-le-of-lt, add-mul, mul-assoc, add-assoc, add-suc, suc-mul, mul-le-mul-right, le-of-lt}
 use native.Mathlib.Omega.{arith}
 use borrow.Author.Tests.{ltb-true, ltb-false, lt-ltb, le-ltb, eqb-true, eqb-false}
 use lib.Arith.{digits-lt, digits-mod, digits-div, mod-mul}

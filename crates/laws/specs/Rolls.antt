@@ -1,9 +1,9 @@
 -- Rolling words: the number of the m letters read last, as one letter after the other is read; and the scan of a sequence by the values of
 -- all its m-mers.
 -- Assumes nothing.
-use Prim.Native.Nat.{ℕ, zero, suc, _+_, _-_, _*_, _/_, _%_, _^_, _≤_, _<_}
-use mathlib.Core.List.{List, [], _∷_, _++_, map}
-use mathlib.Core.Path.{_≡_, refl, sym, ap, _∙_}
+use Prim.Native.Nat.{ℕ, suc, _+_, _-_, _*_, _/_, _%_, _^_, _≤_, _<_}
+use mathlib.Core.List.{List, [], _∷_, map}
+use mathlib.Core.Path.{_≡_, sym, ap, _∙_}
 use native.Mathlib.Nat.{pow-suc, pow-zero, one-mul, mul-one, add-zero, mul-add-mod-self-right, add-mul-mod-self-right, div-add-mod', add-mul, mul-right-comm, mod-eq-of-lt, one-le-pow, mul-div-cancel, mul-mod-left}
 use native.Mathlib.Omega.{arith}
 use lib.Arith.{digits-div, digits-mod, mod-mul}
@@ -11,8 +11,8 @@ use lib.Bits.{bitXor}
 use lib.ListN.{length, getD, take, drop, length-drop}
 use lib.Seq.{take-suc, take-add}
 use Rattle.definitions.specs.Words.{Word, Letters, number, val, word, _⊕_}
-use Rattle.definitions.specs.Vigemins.{Form, keyed, value, windows, leastPlace, vigeminAt, scan}
-use Rattle.laws.specs.Numbers.{four-pos, number-lt, number-append, length-digits, digits-below, number-digits-lt, length-sum, sum-letters, keyed-value, letters-take, letters-drop}
+use Rattle.definitions.specs.Vigemins.{Form, keyed, value, windows, leastPlace, scan}
+use Rattle.laws.specs.Numbers.{four-pos, number-lt, number-append, length-digits, digits-below, number-digits-lt, length-sum, sum-letters, keyed-value}
 use Rattle.laws.specs.Minima.{stretch-mer, map-stretch, value-at, length-values, windows-take, windows-drop}
 use Rattle.laws.specs.Scans.{scan-at}
 use Rattle.laws.specs.Stamps.{Under}

@@ -4,18 +4,16 @@
 use Prim.Native.Nat.{ℕ, zero, suc, _+_, _-_, _*_, _%_, _≤_, _<_, min}
 use mathlib.Core.Bool.{Bool, true, false, cond}
 use mathlib.Core.List.{List, [], _∷_, _++_}
-use mathlib.Core.Path.{_≡_, refl, sym, ap, ap₂, _∙_}
+use mathlib.Core.Path.{_≡_, refl, sym, ap, _∙_}
 use native.Mathlib.Nat.{min-eq-left, min-eq-right, min-le-right, add-zero, add-suc, suc-add, zero-add, zero-lt-suc, le-refl, not-suc-le-zero, mul-le-mul-right, suc-mul}
 use native.Mathlib.Omega.{arith}
 use native.Mathlib.Numerals.{add-one}
 use borrow.Author.Tests.{leb-true, leb-false}
 use lib.Arith.{digits-lt, digits-mod}
 use lib.Dec.{leb}
-use lib.ListN.{length, getD, take, drop, length-drop}
+use lib.ListN.{length, getD, take, drop}
 use lib.Seq.{take-add, drop-drop, drop-cons, getD-take, getD-drop}
-use Rattle.definitions.specs.Lists.{all}
 use Rattle.definitions.specs.Vigemins.{leastPlace}
-use Rattle.laws.specs.Filters.{at-all}
 use Rattle.laws.specs.Minima.{least-append, least-lt, length-stretch}
 
 -- the least of some numbers; the top where there is none

@@ -1,7 +1,7 @@
 // The foreign forms: what Rust or C links, on plain numbers and slices of bytes. A slice passes as a pointer and a length, both valid; a null
 // pointer only with length 0.
 ghost use mathlib.Core.Path.{_≡_};
-ghost use Prim.Native.Nat.{_≤_, _<_};
+ghost use Prim.Native.Nat.{_<_};
 ghost use Rattle.definitions.specs.Outcomes as outcomes;
 ghost use Rattle.tukinraso.specs.Answers.{foreignScanned};
 

@@ -1,11 +1,10 @@
 -- A sequence that a scan reads: its values, the m-mer that ends in a letter, and the position for a window.
 -- Assumes nothing.
-use Prim.Native.Nat.{ℕ, suc, _+_, _-_, _*_, _%_, _^_, _≤_, _<_}
+use Prim.Native.Nat.{ℕ, suc, _+_, _-_, _*_, _^_, _≤_, _<_}
 use mathlib.Core.List.{List}
-use mathlib.Core.Path.{_≡_, refl, sym, ap, _∙_}
+use mathlib.Core.Path.{_≡_, ap, _∙_}
 use native.Mathlib.Nat.{mod-lt, one-le-pow}
 use native.Mathlib.Omega.{arith}
-use lib.Bits.{bitXor}
 use lib.ListN.{length, getD, take, drop, length-map}
 use Rattle.definitions.specs.Words.{letterOf, spelled, word as wordOf}
 use Rattle.definitions.specs.Vigemins.{keyed, leastPlace, scan}

@@ -1,16 +1,16 @@
 -- A scan's answer, for any entries that stand for the positions: where there is no window the room is as it was, and where there is one nothing is
 -- refused.
 -- Assumes nothing.
-use Prim.Native.Nat.{ℕ, zero, suc, _+_, _-_, _*_, _≤_, _<_}
+use Prim.Native.Nat.{ℕ, zero, suc, _-_, _<_}
 use mathlib.Core.Bool.{Bool, true, false, cond}
-use mathlib.Core.List.{List, [], _∷_, _++_}
+use mathlib.Core.List.{List, []}
 use mathlib.Core.Path.{_≡_, refl, sym, ap, _∙_}
 use native.Mathlib.Omega.{arith}
 use borrow.Author.Tests.{eqb-true}
 use lib.Dec.{eqb}
 use lib.ListN.{length, length-map}
 use Rattle.definitions.specs.Lists.{over}
-use Rattle.definitions.specs.Words.{letterOf, spelled, word as wordOf}
+use Rattle.definitions.specs.Words.{spelled, word as wordOf}
 use Rattle.definitions.specs.Vigemins.{Form, keyed, windows, positions, scan}
 use Rattle.definitions.specs.Refusals.{refusal, placeBeside}
 use Rattle.definitions.specs.Outcomes.{scanGrounds, scanAnswer}
@@ -19,7 +19,7 @@ use Rattle.laws.specs.Minima.{length-windows, windows-none}
 use Rattle.vigemins.specs.declared.Settings.{Settings}
 use Rattle.vigemins.specs.declared.Scanned.{Scanned}
 use Rattle.vigemins.specs.Answers.{scanned}
-use Rattle.vigemins.specs.Readings.{Prepared, SetTo, Readable, Examined, Writable, positionsOf}
+use Rattle.vigemins.specs.Readings.{SetTo, Examined, Writable, positionsOf}
 
 -- ---- no window
 

@@ -1,8 +1,7 @@
 // Vigemins: the vigemin of a k-mer, and the scan of a sequence, into positions or into bytes.
 ghost use mathlib.Core.Path.{_≡_};
-ghost use mathlib.Core.List.{List};
-ghost use Prim.Native.Nat.{ℕ, suc, _+_, _-_, _*_, _/_, _%_, _^_, _≤_, _<_, min};
-ghost use lib.Bits.{bitXor, bitAnd};
+ghost use Prim.Native.Nat.{suc, _+_, _-_, _*_, _/_, _%_, _^_, _≤_, _<_, min};
+ghost use lib.Bits.{bitXor};
 ghost use lib.ListN.{length};
 ghost use lib.Seq.{sets};
 ghost use Rattle.definitions.specs.Words.{word as wordOf, spelled, bytes};
@@ -11,7 +10,6 @@ ghost use Rattle.definitions.specs.Vigemins.{keyed};
 ghost use Rattle.definitions.specs.Outcomes.{vigeminAnswer, vigeminOutcome, scanOutcome, asBytes, scanBytesOutcome};
 ghost use Rattle.laws.specs.Accepted.{VigeminAccepted, OrderAccepted};
 ghost use Rattle.laws.specs.Rolls.{rolled, values};
-ghost use Rattle.words.specs.Letters.{codeOf};
 ghost use Rattle.vigemins.specs.Answers.{found, scanned};
 ghost use Rattle.vigemins.specs.Readings.{Entries, Suffixes, SetTo, Rollable, Rolled, Stamped, Readable, Filled, Read, Turnable, Turned, Steppable, Examined, Writable, positionsOf};
 

@@ -1,11 +1,9 @@
 -- `tukinraso::tukinraso_scan` meets its contract: what the scan into bytes answers is coded as one number.
 -- Assumes nothing.
-use Prim.Native.Nat.{ℕ, _<_, _≤_}
-use mathlib.Core.List.{List}
-use mathlib.Core.Path.{_≡_, refl, sym, ap, _∙_}
+use mathlib.Core.Path.{ap}
 use native.Mathlib.Omega.{arith}
 use borrow.Author.Needs.{needs}
-use Rattle.definitions.specs.Outcomes.{Scanned, scanBytesOutcome, foreignScanOutcome, coded}
+use Rattle.definitions.specs.Outcomes.{Scanned, foreignScanOutcome, coded}
 use Rattle.laws.specs.Accepted.{scanBytes-small}
 use Rattle.tukinraso.proofs.tukinraso_scan.Statement.{statement}
 use Rattle.tukinraso.proofs.tukinraso_scan.Tie as tie

@@ -1,15 +1,10 @@
 -- `vigemins::begin` meets its contract. The loop's invariant: so many m-mers of the first block were read. The measure is how many are left.
 -- Assumes nothing.
-use Prim.Native.Nat.{ℕ, suc, _+_, _-_, _*_, _^_, _≤_, _<_}
-use mathlib.Core.List.{List}
-use mathlib.Core.Path.{_≡_, refl, sym, _∙_}
+use Prim.Native.Nat.{_+_, _-_}
+use mathlib.Core.Path.{_≡_, refl}
 use native.Mathlib.Nat.{add-zero}
 use native.Mathlib.Omega.{arith}
-use borrow.Author.Needs.{needs}
-use lib.ListN.{length, getD}
 use Rattle.definitions.specs.Words.{spelled}
-use Rattle.laws.specs.Rolls.{rolled, values}
-use Rattle.vigemins.specs.Readings.{Readable, Read}
 use Rattle.vigemins.proofs.Letters.{rolled-on}
 use Rattle.vigemins.proofs.Windows.{Begun, begun-more, begun-entries, begun-read}
 use Rattle.vigemins.proofs.begin.Statement.{statement}

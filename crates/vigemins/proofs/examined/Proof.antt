@@ -1,7 +1,7 @@
 -- `vigemins::examined` meets its contract: each return gives the number of the first ground whose test held.
 -- Assumes nothing.
-use Prim.Native.Nat.{ℕ, suc, _-_, _*_, _≤_}
-use mathlib.Core.Bool.{Bool, true, false, cond, not}
+use Prim.Native.Nat.{ℕ, _-_, _*_, _≤_}
+use mathlib.Core.Bool.{Bool, cond, not}
 use mathlib.Core.List.{List, [], _∷_, _++_}
 use mathlib.Core.Path.{_≡_, refl, sym, _∙_}
 use native.Mathlib.Nat.{mul-le-mul-right}
@@ -13,12 +13,11 @@ use lib.ListN.{length}
 use Rattle.definitions.specs.Lists.{all}
 use Rattle.definitions.specs.Words.{isLetter}
 use Rattle.definitions.specs.Vigemins.{windows}
-use Rattle.definitions.specs.Refusals.{Ground, refusal, badKey, badSequence, badLetter, badRoom, firstBad, placeBeside}
+use Rattle.definitions.specs.Refusals.{Ground, refusal, badKey, badSequence, badLetter, badRoom, firstBad}
 use Rattle.definitions.specs.Outcomes.{orderGrounds, sequenceGrounds}
 use Rattle.laws.specs.Minima.{length-windows}
 use Rattle.laws.specs.Numbers.{firstBad-all}
 use Rattle.laws.specs.Refusals.{refusal-append, refusal-most}
-use Rattle.vigemins.specs.Readings.{Examined}
 use Rattle.vigemins.proofs.examined.Statement.{statement}
 use Rattle.vigemins.proofs.examined.Tie as tie
 

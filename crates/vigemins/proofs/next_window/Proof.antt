@@ -1,7 +1,5 @@
 -- `vigemins::next_window` meets its contract: once the last block has m-mers left to be read after it, one letter is read.
 -- Assumes nothing.
-use Prim.Native.Nat.{_+_}
-use mathlib.Core.Path.{_≡_}
 use native.Mathlib.Omega.{arith}
 use borrow.Author.Needs.{needs}
 use Rattle.vigemins.proofs.next_window.Statement.{statement}

@@ -1,6 +1,6 @@
 -- `vigemins::put` meets its contract: four stores in a row.
 -- Assumes nothing.
-use Prim.Native.Nat.{ℕ, suc, _+_}
+use Prim.Native.Nat.{suc, _+_}
 use mathlib.Core.Path.{_≡_}
 use native.Mathlib.Nat.{div-one}
 use native.Mathlib.Omega.{arith}

@@ -1,7 +1,7 @@
 -- `vigemins::roll` meets its contract: what goes out is dropped past the highest bits, and what comes in stands where no letter was.
 -- Assumes nothing.
-use Prim.Native.Nat.{ℕ, suc, _+_, _*_, _%_, _^_, _≤_, _<_}
-use mathlib.Core.Path.{_≡_, refl, sym, _∙_}
+use Prim.Native.Nat.{ℕ, suc, _+_, _*_, _%_, _≤_}
+use mathlib.Core.Path.{_≡_}
 use native.Mathlib.Nat.{mod-lt, one-le-pow, mul-le-mul-right, suc-mul}
 use native.Mathlib.Omega.{arith}
 use borrow.Author.Needs.{needs}
@@ -9,7 +9,7 @@ use Rattle.laws.specs.Numbers.{four-pos}
 use Rattle.laws.specs.Rolls.{roll-high}
 use Rattle.words.specs.Letters.{codeOf, code-lt}
 use Rattle.vigemins.specs.declared.Settings.{Settings}
-use Rattle.vigemins.specs.Readings.{top, Prepared, Rollable, rollOn}
+use Rattle.vigemins.specs.Readings.{top, Prepared, rollOn}
 use Rattle.vigemins.proofs.roll.Statement.{statement}
 use Rattle.vigemins.proofs.roll.Tie as tie
 

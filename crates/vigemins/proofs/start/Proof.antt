@@ -1,16 +1,13 @@
 -- `vigemins::start` meets its contract. The loop's invariant: the word is that of the letters passed. The measure is how many are left.
 -- Assumes nothing.
-use Prim.Native.Nat.{ℕ, suc, _+_, _-_, _*_, _%_, _^_, _≤_, _<_}
-use mathlib.Core.List.{List}
+use Prim.Native.Nat.{ℕ, _-_, _*_, _≤_, _<_}
 use mathlib.Core.Path.{_≡_, sym, ap, _∙_}
 use native.Mathlib.Nat.{zero-mod, zero-mul}
 use native.Mathlib.Numerals.{add-one}
 use native.Mathlib.Omega.{arith}
-use borrow.Author.Needs.{needs}
 use lib.ListN.{length}
 use Rattle.definitions.specs.Words.{spelled}
 use Rattle.laws.specs.Rolls.{rolled}
-use Rattle.vigemins.specs.Readings.{Readable}
 use Rattle.vigemins.proofs.Letters.{rolled-on, letter-read}
 use Rattle.vigemins.proofs.start.Statement.{statement}
 use Rattle.vigemins.proofs.start.Tie as tie

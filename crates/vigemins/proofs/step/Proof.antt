@@ -1,11 +1,10 @@
 -- `vigemins::step` meets its contract: the m-mer that ends in the letter is read, and the least of the window is the lesser of what is left of
 -- the block and what was read after it.
 -- Assumes nothing.
-use Prim.Native.Nat.{ℕ, suc, _+_, _-_, _≤_}
-use mathlib.Core.Path.{_≡_, refl}
+use Prim.Native.Nat.{_-_}
 use native.Mathlib.Omega.{arith}
 use borrow.Author.Needs.{needs}
-use lib.Bits.{bitAnd, and-le-r}
+use lib.Bits.{and-le-r}
 use Rattle.vigemins.proofs.Windows.{block-inside, word-rollable, step-read}
 use Rattle.vigemins.proofs.step.Statement.{statement}
 use Rattle.vigemins.proofs.step.Tie as tie

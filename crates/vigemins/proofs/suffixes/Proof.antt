@@ -1,11 +1,11 @@
 -- `vigemins::suffixes` meets its contract. The loop's invariant: from i on, each entry is the least of those from its place on, and the others
 -- are as they were. The measure is i.
 -- Assumes nothing.
-use Prim.Native.Nat.{ℕ, suc, _+_, _-_, _≤_, _<_, min}
+use Prim.Native.Nat.{ℕ, suc, _-_, _≤_, _<_, min}
 use mathlib.Core.Bool.{Bool, true, false}
 use mathlib.Core.List.{List}
 use mathlib.Core.Logic.{_⊎_, inl, inr, ⊎-elim}
-use mathlib.Core.Path.{_≡_, refl, sym, ap, _∙_}
+use mathlib.Core.Path.{_≡_, refl, sym, _∙_}
 use native.Mathlib.Omega.{arith}
 use native.Mathlib.Nat.{min-eq-left}
 use borrow.Author.Needs.{needs}
@@ -14,7 +14,7 @@ use lib.Dec.{eqb}
 use lib.ListN.{length, getD, set, take, drop, length-set}
 use lib.Seq.{drop-cons, getD-set-same, getD-set-other}
 use Rattle.laws.specs.Stamps.{lowest}
-use Rattle.vigemins.specs.Readings.{top, Entries, Suffixes}
+use Rattle.vigemins.specs.Readings.{top, Entries}
 use Rattle.vigemins.proofs.suffixes.Statement.{statement}
 use Rattle.vigemins.proofs.suffixes.Tie as tie
 

@@ -1,20 +1,17 @@
 -- `vigemins::write_bytes` meets its contract. The loop's invariant: the first i windows were read and their positions written. The measure is
 -- how many windows are left.
 -- Assumes nothing.
-use Prim.Native.Nat.{ℕ, suc, _+_, _-_, _*_, _≤_, _<_}
+use Prim.Native.Nat.{ℕ, _-_, _*_, _≤_}
 use mathlib.Core.List.{List}
-use mathlib.Core.Path.{_≡_, refl, sym, ap, _∙_}
+use mathlib.Core.Path.{_≡_, refl, sym, _∙_}
 use native.Mathlib.Numerals.{add-one}
 use native.Mathlib.Omega.{arith}
-use borrow.Author.Needs.{needs}
-use lib.ListN.{length, getD}
-use lib.Seq.{sets, length-sets}
-use Rattle.definitions.specs.Words.{spelled, bytes}
+use lib.ListN.{length}
+use Rattle.definitions.specs.Words.{spelled}
 use Rattle.definitions.specs.Outcomes.{asBytes}
 use Rattle.laws.specs.Rolls.{values}
 use Rattle.laws.specs.Rooms.{overTo, overTo-bytes, overTo-all, length-asBytes}
-use Rattle.vigemins.specs.declared.Settings.{Settings}
-use Rattle.vigemins.specs.Readings.{Read, Writable, positionsOf}
+use Rattle.vigemins.specs.Readings.{positionsOf}
 use Rattle.vigemins.proofs.Windows.{empty-ring, Reached, length-positions, reached-first, next-place, reached-next, reached-position}
 use Rattle.vigemins.proofs.write_bytes.Statement.{statement}
 use Rattle.vigemins.proofs.write_bytes.Tie as tie

@@ -1,17 +1,16 @@
 -- `vigemins::write_positions` meets its contract. The loop's invariant: the first i windows were read and their positions written. The measure
 -- is how many windows are left.
 -- Assumes nothing.
-use Prim.Native.Nat.{ℕ, suc, _+_, _-_, _*_, _≤_, _<_}
+use Prim.Native.Nat.{ℕ, _-_, _≤_}
 use mathlib.Core.List.{List}
-use mathlib.Core.Path.{_≡_, refl, sym, ap, _∙_}
+use mathlib.Core.Path.{_≡_, refl, sym, _∙_}
 use native.Mathlib.Numerals.{add-one}
 use native.Mathlib.Omega.{arith}
-use borrow.Author.Needs.{needs}
-use lib.ListN.{length, getD, set, length-set}
+use lib.ListN.{length, set, length-set}
 use Rattle.definitions.specs.Words.{spelled}
 use Rattle.laws.specs.Rolls.{values}
-use Rattle.laws.specs.Rooms.{overTo, overTo-more, overTo-all, length-overTo}
-use Rattle.vigemins.specs.Readings.{Read, Writable, positionsOf}
+use Rattle.laws.specs.Rooms.{overTo, overTo-more, overTo-all}
+use Rattle.vigemins.specs.Readings.{positionsOf}
 use Rattle.vigemins.proofs.Windows.{empty-ring, Reached, position-small, length-positions, reached-first, next-place, reached-next, reached-position}
 use Rattle.vigemins.proofs.write_positions.Statement.{statement}
 use Rattle.vigemins.proofs.write_positions.Tie as tie

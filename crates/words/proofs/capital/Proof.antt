@@ -1,7 +1,6 @@
 -- `words::capital` meets its contract: a letter that is none of the first three is the last.
 -- Assumes nothing.
-use Prim.Native.Nat.{ℕ}
-use mathlib.Core.Path.{_≡_, refl}
+use mathlib.Core.Path.{_≡_}
 use native.Mathlib.Omega.{arith}
 use borrow.Author.Needs.{needs}
 use Rattle.words.proofs.capital.Statement.{statement}

@@ -1,7 +1,7 @@
 -- `words::first_bad` meets its contract: where all bytes are letters, the first bad place is the end.
 -- Assumes nothing.
 use borrow.Author.Needs.{needs}
-use mathlib.Core.Path.{_≡_, sym, _∙_}
+use mathlib.Core.Path.{sym, _∙_}
 use Rattle.laws.specs.Numbers.{firstBad-none}
 use Rattle.words.proofs.first_bad.Statement.{statement}
 use Rattle.words.proofs.first_bad.Tie as tie

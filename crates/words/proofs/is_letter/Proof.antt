@@ -2,7 +2,7 @@
 -- Assumes nothing.
 use mathlib.Core.Bool.{Bool, true, false, cond, _||_}
 use mathlib.Core.Path.{_≡_, refl}
-use Prim.Native.Nat.{ℕ, suc}
+use Prim.Native.Nat.{suc}
 use lib.Dec.{ltb, eqb}
 use Rattle.words.proofs.is_letter.Statement.{statement}
 use Rattle.words.proofs.is_letter.Tie as tie

@@ -1,7 +1,6 @@
 -- `words::order_refusal` meets its contract: each return gives the number of the first ground whose test held.
 -- Assumes nothing.
 use borrow.Author.Needs.{needs}
-use mathlib.Core.Path.{_≡_, sym, _∙_}
 use Rattle.words.proofs.order_refusal.Statement.{statement}
 use Rattle.words.proofs.order_refusal.Tie as tie
 

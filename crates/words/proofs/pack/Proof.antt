@@ -1,8 +1,7 @@
 -- `words::pack` meets its contract: each return gives the answer under the number of the first ground whose test held.
 -- Assumes nothing.
-use Prim.Native.Nat.{ℕ}
-use mathlib.Core.Bool.{Bool, true, false, not}
-use mathlib.Core.Path.{_≡_, refl, sym, _∙_}
+use mathlib.Core.Bool.{true, false, not}
+use mathlib.Core.Path.{_≡_, sym, _∙_}
 use borrow.Author.Needs.{needs}
 use borrow.Author.Tests.{lt-ltb, le-ltb}
 use lib.ListN.{length}
@@ -10,9 +9,8 @@ use Rattle.definitions.specs.Lists.{all}
 use Rattle.definitions.specs.Words.{isLetter}
 use Rattle.definitions.specs.Refusals.{refusal, firstBad}
 use Rattle.definitions.specs.Outcomes.{packGrounds, packAnswer, packOutcome}
-use Rattle.laws.specs.Accepted.{PackAccepted, pack-accepted}
+use Rattle.laws.specs.Accepted.{pack-accepted}
 use Rattle.laws.specs.Numbers.{firstBad-all}
-use Rattle.words.specs.Answers.{packed}
 use Rattle.words.proofs.pack.Statement.{statement}
 use Rattle.words.proofs.pack.Tie as tie
 

@@ -1,7 +1,6 @@
 -- `words::power` meets its contract: the table's rule is a test at each of its 32 entries, which antt computes.
 -- Assumes nothing.
 use Prim.Native.Nat.{ℕ, _^_, _<_}
-use mathlib.Core.Bool.{Bool}
 use mathlib.Core.List.{List, [], _∷_}
 use mathlib.Core.Path.{_≡_, refl}
 use native.Mathlib.Omega.{arith}
@@ -9,7 +8,6 @@ use borrow.Author.Needs.{needs}
 use borrow.Author.Tests.{eqb-true, le-leb, lt-leb}
 use lib.Dec.{eqb}
 use lib.ListN.{getD}
-use Rattle.definitions.specs.Lists.{all, tabulate}
 use Rattle.laws.specs.Numbers.{all-tabulate}
 use Rattle.words.proofs.power.Statement.{statement}
 use Rattle.words.proofs.power.Tie as tie

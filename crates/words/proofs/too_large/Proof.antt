@@ -1,7 +1,7 @@
 -- `words::too_large` meets its contract: no number of 64 bits is too large for 32 letters or more, and below that the table tells.
 -- Assumes nothing.
-use Prim.Native.Nat.{ℕ, _^_, _<_, _≤_}
-use mathlib.Core.Path.{_≡_, sym}
+use Prim.Native.Nat.{_^_, _≤_}
+use mathlib.Core.Path.{sym}
 use native.Mathlib.Nat.{pow-le-pow-right}
 use native.Mathlib.Omega.{arith}
 use borrow.Author.Needs.{needs}

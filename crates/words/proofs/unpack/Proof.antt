@@ -1,16 +1,13 @@
 -- `words::unpack` meets its contract: each return gives the answer under the number of the first ground whose test held, and the room as it
 -- was, or with the letters over its front.
 -- Assumes nothing.
-use Prim.Native.Nat.{ℕ, _^_}
-use mathlib.Core.Bool.{Bool, true, false}
-use mathlib.Core.Path.{_≡_, refl, sym, _∙_}
+use mathlib.Core.Path.{_≡_}
 use borrow.Author.Needs.{needs}
 use borrow.Author.Tests.{lt-ltb, le-ltb}
-use lib.Dec.{leb}
 use lib.ListN.{length}
 use Rattle.definitions.specs.Refusals.{refusal}
 use Rattle.definitions.specs.Outcomes.{unpackGrounds, unpackAnswer, unpackOutcome}
-use Rattle.laws.specs.Accepted.{UnpackAccepted, unpack-accepted}
+use Rattle.laws.specs.Accepted.{unpack-accepted}
 use Rattle.words.proofs.unpack.Statement.{statement}
 use Rattle.words.proofs.unpack.Tie as tie
 

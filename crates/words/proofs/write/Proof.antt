@@ -1,18 +1,16 @@
 -- `words::write` meets its contract. The loop's invariant: the first i entries of the room are written. The measure is how many letters are
 -- left.
 -- Assumes nothing.
-use Prim.Native.Nat.{ℕ, suc, _+_, _-_, _*_, _/_, _%_, _^_, _≤_, _<_}
+use Prim.Native.Nat.{ℕ, suc, _+_, _-_, _*_, _/_, _%_, _^_, _≤_}
 use mathlib.Core.List.{List}
-use mathlib.Core.Path.{_≡_, refl, sym, ap, _∙_}
-use native.Mathlib.Nat.{mod-lt}
+use mathlib.Core.Path.{_≡_, sym, ap, _∙_}
 use native.Mathlib.Numerals.{add-one}
 use native.Mathlib.Omega.{arith}
 use borrow.Author.Needs.{needs}
 use lib.ListN.{length, getD, length-map}
-use Rattle.definitions.specs.Words.{digits, capitals, word, text}
-use Rattle.laws.specs.Accepted.{UnpackAccepted}
+use Rattle.definitions.specs.Words.{capitals, word, text}
 use Rattle.laws.specs.Filters.{at-map}
-use Rattle.laws.specs.Numbers.{four-pos, four-pow, length-digits, digits-at}
+use Rattle.laws.specs.Numbers.{four-pow, length-digits, digits-at}
 use Rattle.laws.specs.Rooms.{overTo, length-overTo, overTo-more, overTo-all}
 use Rattle.words.proofs.write.Statement.{statement}
 use Rattle.words.proofs.write.Tie as tie
