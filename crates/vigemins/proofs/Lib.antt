@@ -1,3 +1,9 @@
+-- Laws that several proofs cite, in the order in which one builds on another.
+--
+-- Blocks        minima by blocks, over any values
+-- Letters       a sequence that is read: its values, the m-mer that ends in a letter, the position for a window
+-- Windows       a window that was read, and the next one
+-- Scans         the answer of a scan, for any entries that stand for the positions
 pub mod Blocks
 pub mod Letters
 pub mod Windows

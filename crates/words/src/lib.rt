@@ -1,4 +1,4 @@
-// Words: the powers of four and the range tests, letters and bytes, packing and unpacking.
+// Words: the powers of four and the range tests, letters and bytes, packing and unpacking. Assumes nothing.
 ghost use mathlib.Core.Path.{_≡_};
 ghost use Prim.Native.Nat.{_^_, _<_};
 ghost use lib.Dec.{leb};
