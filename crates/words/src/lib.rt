@@ -88,7 +88,7 @@ pub fn order_refusal(k: u64, m: u64, key: u64) -> u64
 pub fn is_letter(byte: u8) -> bool
     ensures { λ r. ⌜ r ≡ isLetter byte ⌝ }
 {
-    (byte == 65) | (byte == 67) | (byte == 71) | (byte == 84)
+    (byte == b'A') | (byte == b'C') | (byte == b'G') | (byte == b'T')
 }
 
 // The letter that a byte is read as, by arithmetic; of a byte that is no letter, whatever the arithmetic gives.
@@ -189,10 +189,10 @@ fn capital(letter: u64) -> u8
     ensures { λ r. ⌜ r ≡ getD capitals letter 0 ⌝ }
 {
     match letter {
-        0 => 65,
-        1 => 67,
-        2 => 71,
-        _ => 84,
+        0 => b'A',
+        1 => b'C',
+        2 => b'G',
+        _ => b'T',
     }
 }
 

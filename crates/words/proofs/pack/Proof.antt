@@ -7,7 +7,7 @@ use borrow.Author.Tests.{lt-ltb, le-ltb}
 use lib.ListN.{length}
 use Rattle.definitions.specs.Lists.{all}
 use Rattle.definitions.specs.Words.{isLetter}
-use Rattle.definitions.specs.Refusals.{refusal, firstBad}
+use Rattle.definitions.specs.Refusals.{refusal, badLength, firstBad}
 use Rattle.definitions.specs.Outcomes.{packGrounds, packAnswer, packOutcome}
 use Rattle.laws.specs.Accepted.{pack-accepted}
 use Rattle.laws.specs.Numbers.{firstBad-all}
@@ -16,7 +16,9 @@ use Rattle.words.proofs.pack.Tie as tie
 
 returns : tie.Need-returns
 unfolding packOutcome packAnswer
-returns c = rw (c .if1 .taken)
+returns c =
+    let bad : badLength (length (c .before .before .args .text .now)) .met ≡ true = c .if1 .taken in
+    rw bad
 
 first-bad-requires : tie.Need-first-bad-requires
 first-bad-requires c κs = search needs

@@ -1,11 +1,12 @@
 -- `words::unpack` meets its contract: each return gives the answer under the number of the first ground whose test held, and the room as it
 -- was, or with the letters over its front.
 -- Assumes nothing.
+use mathlib.Core.Bool.{true}
 use mathlib.Core.Path.{_≡_}
 use borrow.Author.Needs.{needs}
 use borrow.Author.Tests.{lt-ltb, le-ltb}
 use lib.ListN.{length}
-use Rattle.definitions.specs.Refusals.{refusal}
+use Rattle.definitions.specs.Refusals.{refusal, badLength}
 use Rattle.definitions.specs.Outcomes.{unpackGrounds, unpackAnswer, unpackOutcome}
 use Rattle.laws.specs.Accepted.{unpack-accepted}
 use Rattle.words.proofs.unpack.Statement.{statement}
@@ -13,7 +14,9 @@ use Rattle.words.proofs.unpack.Tie as tie
 
 returns : tie.Need-returns
 unfolding unpackOutcome unpackAnswer
-returns c = rw (c .if1 .taken)
+returns c =
+    let bad : badLength (c .before .before .args .length) .met ≡ true = c .if1 .taken in
+    rw bad
 
 too-large-requires : tie.Need-too-large-requires
 too-large-requires c κs = search needs
