@@ -1,0 +1,21 @@
+//! Links libtukinraso.a where it is found; without it the program measures the rivals alone.
+
+use std::env;
+use std::path::PathBuf;
+
+fn main() {
+    println!("cargo::rustc-check-cfg=cfg(has_library)");
+    println!("cargo::rerun-if-env-changed=TUKINRASO_LIB");
+    let home = PathBuf::from(env::var_os("CARGO_MANIFEST_DIR").expect("cargo names the manifest's folder"));
+    let folder = match env::var_os("TUKINRASO_LIB") {
+        Some(named) => home.join(named),
+        None => home.join("../../target/native"),
+    };
+    let archive = folder.join("libtukinraso.a");
+    println!("cargo::rerun-if-changed={}", archive.display());
+    if archive.is_file() {
+        println!("cargo::rustc-link-search=native={}", folder.display());
+        println!("cargo::rustc-link-lib=static=tukinraso");
+        println!("cargo::rustc-cfg=has_library");
+    }
+}
