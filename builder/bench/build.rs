@@ -1,4 +1,5 @@
-//! Links libtukinraso.a where it is found; without it the program measures the rivals alone.
+//! Links libtukinraso.a where it is found, in the folder that TUKINRASO_LIB names or where `rt staticlib` writes it; without it the
+//! program measures the rivals alone, and says so.
 
 use std::env;
 use std::path::PathBuf;
@@ -9,7 +10,7 @@ fn main() {
     let home = PathBuf::from(env::var_os("CARGO_MANIFEST_DIR").expect("cargo names the manifest's folder"));
     let folder = match env::var_os("TUKINRASO_LIB") {
         Some(named) => home.join(named),
-        None => home.join("../../target/native"),
+        None => home.join("../../target/staticlib"),
     };
     let archive = folder.join("libtukinraso.a");
     println!("cargo::rerun-if-changed={}", archive.display());
@@ -17,5 +18,7 @@ fn main() {
         println!("cargo::rustc-link-search=native={}", folder.display());
         println!("cargo::rustc-link-lib=static=tukinraso");
         println!("cargo::rustc-cfg=has_library");
+    } else if env::var_os("TUKINRASO_LIB").is_some() {
+        panic!("no archive at {}", archive.display());
     }
 }

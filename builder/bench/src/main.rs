@@ -60,6 +60,9 @@ fn contenders() -> Vec<Contender> {
 }
 
 fn main() {
+    if !cfg!(has_library) {
+        println!("the library is not linked: the rivals alone");
+    }
     let mode = std::env::args().nth(1);
     match mode.as_deref() {
         Some("check") => check(),
@@ -464,7 +467,7 @@ fn measure() {
     let contenders = contenders();
     let names: Vec<&str> = contenders.iter().map(|contender| contender.name).collect();
     let foreign = names[0] == "foreign";
-    println!("{LETTERS} letters, k {K}: nanoseconds per letter, best of {ROUNDS} rounds");
+    println!("{LETTERS} letters, k {K}: nanoseconds per letter, best of {ROUNDS} rounds, the room cleared before each");
     print!("{:>3}  {:<7}", "m", "input");
     names.iter().for_each(|name| print!(" {name:>8}"));
     if foreign {

@@ -68,8 +68,8 @@ pub fn block_scan(k: u64, m: u64, key: u64, seq: &[u8], room: &mut [u8]) -> u64 
 
 /// A word lies in the top 2m bits, so that the letter that leaves falls off, and the place in two blocks below it,
 /// so that one `min` compares both and ties go left. The slot after the last is MAX, which no stamp passes.
-fn blocks(k: usize, m: usize, key: u64, seq: &[u8], places: &mut [[u8; 4]]) {
-    let w = k - m + 1;
+fn blocks(k: usize, m: usize, key: u64, seq: &[u8], positions: &mut [[u8; 4]]) {
+    let width = k - m + 1;
     let unit = 1 << (64 - 2 * m);
     let top = key * unit;
     let roll = |word: u64, letter: u8| (word << 2) + u64::from(letter) * 3 / 8 % 4 * unit;
@@ -79,21 +79,21 @@ fn blocks(k: usize, m: usize, key: u64, seq: &[u8], places: &mut [[u8; 4]]) {
         word = roll(word, letter);
         *slot = (word ^ top) + at as u64;
     }
-    suffixes(&mut ring[..w]);
-    places[0] = ((ring[0] & (unit - 1)) as u32).to_be_bytes();
+    suffixes(&mut ring[..width]);
+    positions[0] = ((ring[0] & (unit - 1)) as u32).to_be_bytes();
     let (mut base, mut at, mut newer) = (0, 0, u64::MAX);
-    for (&letter, place) in seq[k..].iter().zip(&mut places[1..]) {
-        if at == w {
-            suffixes(&mut ring[..w]);
-            (base, at, newer) = (base + w as u64, 0, u64::MAX);
+    for (&letter, position) in seq[k..].iter().zip(&mut positions[1..]) {
+        if at == width {
+            suffixes(&mut ring[..width]);
+            (base, at, newer) = (base + width as u64, 0, u64::MAX);
         }
         word = roll(word, letter);
         let stamp = (word ^ top) + at as u64;
         ring[at & 31] = stamp;
-        newer = newer.min(stamp + w as u64);
+        newer = newer.min(stamp + width as u64);
         at += 1;
         let least = ring[at & 31].min(newer);
-        *place = ((base + (least & (unit - 1))) as u32).to_be_bytes();
+        *position = ((base + (least & (unit - 1))) as u32).to_be_bytes();
     }
 }
 

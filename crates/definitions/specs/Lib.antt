@@ -29,8 +29,8 @@
 --   column          31 rows of a worksheet; those above k − m hold 0
 -- Refusals      each ground of refusal with its number, once; refusal, the number of the first of a list that is met
 -- Outcomes      of each operation, from all its inputs to its answer and the last contents of its room: packOutcome, unpackOutcome,
---               vigeminOutcome, sizeOutcome, worksheetOutcome, counterOutcome, pageOutcome, scanOutcome, foreignSizeOutcome,
---               foreignScanOutcome
+--               vigeminOutcome, sizeOutcome, worksheetOutcome, counterOutcome, pageOutcome, scanOutcome, scanBytesOutcome,
+--               foreignSizeOutcome, foreignScanOutcome
 -- Cases         W1 to W12 of document 01, proved under one claim; then cases of what these do not ask
 pub mod Lists
 pub mod Words

@@ -1,5 +1,5 @@
-// The foreign forms: what Rust or C links, on plain numbers and slices of bytes. A slice passes as a pointer and a length, both valid; a null
-// pointer only with length 0.
+// The foreign forms: what Rust or C links, on plain numbers and slices of bytes. A slice passes as a pointer and a length. Assumes that both are
+// valid, a null pointer only with length 0, and that `seq` and `room` do not overlap (docs/OUTCOMES.md).
 ghost use mathlib.Core.Path.{_≡_};
 ghost use Prim.Native.Nat.{_<_};
 ghost use Rattle.definitions.specs.Outcomes as outcomes;

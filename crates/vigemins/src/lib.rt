@@ -146,14 +146,14 @@ struct Mer {
     stamp: u64,
 }
 
-// The m-mer that ends in a byte, and its stamp at a place.
-fn next_mer(s: Settings, word: u64, byte: u8, place: u64) -> Mer
+// The m-mer that ends in a byte, and its stamp as the one that is so far behind the start of its block.
+fn next_mer(s: Settings, word: u64, byte: u8, at: u64) -> Mer
     requires { ⌜ Rollable s word ⌝ }
-    requires { ⌜ place < s .side ⌝ }
-    ensures { λ r. ⌜ Stamped s word byte place r ⌝ }
+    requires { ⌜ at < s .side ⌝ }
+    ensures { λ r. ⌜ Stamped s word byte at r ⌝ }
 {
     let next = roll(s, word, byte);
-    let stamp = value(next, s.high) + place;
+    let stamp = value(next, s.high) + at;
     Mer { word: next, stamp }
 }
 
@@ -388,10 +388,10 @@ fn write_bytes(s: Settings, seq: &[u8], windows: u64, room: &mut [u8])
 pub fn scan_bytes(k: u64, m: u64, key: u64, seq: &[u8], room: &mut [u8]) -> Scanned
     ensures { λ r. ⌜ scanned r (now (room .exit)) ≡ scanBytesOutcome k m key (now (seq .entry)) (now (room .entry)) ⌝ }
 {
-    let outcome = examined(k, m, key, seq, 4, room.len() as u64);
-    if outcome.windows == 0 {
-        return outcome;
+    let scanned = examined(k, m, key, seq, 4, room.len() as u64);
+    if scanned.windows == 0 {
+        return scanned;
     }
-    write_bytes(prepare(k, m, key), seq, outcome.windows, room);
-    outcome
+    write_bytes(prepare(k, m, key), seq, scanned.windows, room);
+    scanned
 }
