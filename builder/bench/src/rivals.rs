@@ -51,19 +51,23 @@ fn admit(k: u64, m: u64, key: u64, seq: &[u8], room_len: usize) -> Result<usize,
     Ok(windows)
 }
 
-/// By block minima: a window of w words is a suffix of one block of w words and a prefix of the next, so its
-/// least word is the lesser of a suffix minimum and a running minimum. The cost does not depend on the letters.
-/// One run, letters by arithmetic, one path for every k and m: the form of the proved scan.
-pub fn block_scan(k: u64, m: u64, key: u64, seq: &[u8], room: &mut [u8]) -> u64 {
+/// Answers a scan: refused, or by `write`, which is handed four bytes for the position of each window.
+fn served(k: u64, m: u64, key: u64, seq: &[u8], room: &mut [u8], write: impl FnOnce(&mut [[u8; 4]])) -> u64 {
     let windows = match admit(k, m, key, seq, room.len()) {
         Ok(windows) => windows,
         Err(answer) => return answer,
     };
-    let (places, _) = room.as_chunks_mut::<4>();
     if windows > 0 {
-        blocks(k as usize, m as usize, key, seq, &mut places[..windows]);
+        write(&mut room.as_chunks_mut::<4>().0[..windows]);
     }
     windows as u64
+}
+
+/// By block minima: a window of w words is a suffix of one block of w words and a prefix of the next, so its
+/// least word is the lesser of a suffix minimum and a running minimum. The cost does not depend on the letters.
+/// One run, letters by arithmetic, one path for every k and m: the form of the proved scan.
+pub fn block_scan(k: u64, m: u64, key: u64, seq: &[u8], room: &mut [u8]) -> u64 {
+    served(k, m, key, seq, room, |positions| blocks(k as usize, m as usize, key, seq, positions))
 }
 
 /// A word lies in the top 2m bits, so that the letter that leaves falls off, and the place in two blocks below it,
@@ -108,18 +112,8 @@ fn suffixes(ring: &mut [u64]) {
 /// The fastest of some twenty ways to write the same in one run: places in the whole sequence where they fit below
 /// the word, which is for m <= 24, and suffix minima two at a time.
 pub fn tuned_scan(k: u64, m: u64, key: u64, seq: &[u8], room: &mut [u8]) -> u64 {
-    let windows = match admit(k, m, key, seq, room.len()) {
-        Ok(windows) => windows,
-        Err(answer) => return answer,
-    };
-    let (places, _) = room.as_chunks_mut::<4>();
-    let places = &mut places[..windows];
-    if windows > 0 && m <= 24 {
-        all_blocks::<true>(k as usize, m as usize, key, seq, places);
-    } else if windows > 0 {
-        all_blocks::<false>(k as usize, m as usize, key, seq, places);
-    }
-    windows as u64
+    let blocks = if m <= 24 { all_blocks::<true> } else { all_blocks::<false> };
+    served(k, m, key, seq, room, |places| blocks(k as usize, m as usize, key, seq, places))
 }
 
 /// Turns letters into stamps: a word with the key applied and its place below, so that one `min` compares both and
@@ -246,18 +240,8 @@ fn all_blocks<const FAR: bool>(k: usize, m: usize, key: u64, seq: &[u8], places:
 
 /// By block minima as well, in two runs side by side and with a table of letters.
 pub fn paired_scan(k: u64, m: u64, key: u64, seq: &[u8], room: &mut [u8]) -> u64 {
-    let windows = match admit(k, m, key, seq, room.len()) {
-        Ok(windows) => windows,
-        Err(answer) => return answer,
-    };
-    let (places, _) = room.as_chunks_mut::<4>();
-    let places = &mut places[..windows];
-    if windows > 0 && m <= 24 {
-        pair::<true>(k, m, key, seq, places);
-    } else if windows > 0 {
-        pair::<false>(k, m, key, seq, places);
-    }
-    windows as u64
+    let pair = if m <= 24 { pair::<true> } else { pair::<false> };
+    served(k, m, key, seq, room, |places| pair(k, m, key, seq, places))
 }
 
 /// How words are rolled. A word has the key applied and lies in the top 2m bits, so the letter that leaves falls

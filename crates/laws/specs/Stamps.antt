@@ -9,7 +9,7 @@ use native.Mathlib.Nat.{min-eq-left, min-eq-right, min-le-right, add-zero, add-s
 use native.Mathlib.Omega.{arith}
 use native.Mathlib.Numerals.{add-one}
 use borrow.Author.Tests.{leb-true, leb-false}
-use lib.Arith.{digits-lt, digits-mod}
+use lib.Arith.{digits-mod}
 use lib.Dec.{leb}
 use lib.ListN.{length, getD, take, drop}
 use lib.Seq.{take-add, drop-drop, drop-cons, getD-take, getD-drop}
@@ -66,9 +66,13 @@ first-least : (v : ℕ) (vs : List ℕ) → 0 < length vs
 first-least v vs h = least-append (v ∷ []) vs (zero-lt-suc 0) h ∙ rw (suc-add, zero-add)
 
 module _ (top side bound : ℕ) (fits : bound * side ≤ suc top) where
+  -- every place below the side has room behind a value
+  pub stamp-room : (v : ℕ) → v < bound → v * side + side ≤ suc top
+  stamp-room v h = omega (arith, mul-le-mul-right side h, suc-mul v side)
+
   -- a stamp is at most the top
   pub stamp-top : (v o : ℕ) → v < bound → o < side → v * side + o ≤ top
-  stamp-top v o h k = omega (arith, digits-lt h k)
+  stamp-top v o h k = omega (arith, stamp-room v h)
 
   -- the least stamp is the first one's, or that of the least of the others
   next-stamp : (o v p : ℕ) (vs : List ℕ) → suc o + p < side → (t : Bool) → leb v (getD vs p 0) ≡ t

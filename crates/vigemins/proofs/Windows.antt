@@ -30,7 +30,7 @@ pub record Begun (s : Settings) (seq : List ℕ) (word run at : ℕ) (ring : Lis
   pub filled : Filled (s .side) (s .width) (values (s .m) (s .key) (spelled seq)) 0 at ring
 
 -- a ring of tops has the stamps of nothing
-pub empty-ring : (side width : ℕ) (vs : List ℕ) → width ≤ 31 → Filled side width vs 0 0 (tabulate (λ _. top) 32)
+empty-ring : (side width : ℕ) (vs : List ℕ) → width ≤ 31 → Filled side width vs 0 0 (tabulate (λ _. top) 32)
 empty-ring side width vs h =
     record { full = length-tabulate (λ _. top) 32; stamps = λ q l. absurd (omega arith); end = tabulate-at (λ _. top) 32 width 0 (omega arith) }
 
@@ -41,9 +41,19 @@ pub record Reached (s : Settings) (seq : List ℕ) (windows i : ℕ) (r : Readin
   pub last : suc (r .block + r .at) ≡ i
 
 module _ (s : Settings) (seq : List ℕ) (a : Readable s seq) where
-  -- a block lies inside the sequence
+  -- a window whose m-mers were read lies inside the sequence
+  minima-inside : {block at run : ℕ} {ring : List ℕ} → Minima (s .side) (s .width) (values (s .m) (s .key) (spelled seq)) block at run ring
+      → block + at + s .k ≤ length seq
+  minima-inside m = omega (arith, m .read, length-mers s seq a, a .prepared .kIs, a .prepared .wide)
+
+  -- and so a window that was read
   pub block-inside : {r : Reading} {ring : List ℕ} → Read s seq r ring → r .block + r .at + s .k ≤ length seq
-  block-inside d = omega (arith, d .minima .read, length-mers s seq a, a .prepared .kIs, a .prepared .wide)
+  block-inside d = minima-inside (d .minima)
+
+  -- what reading the first window asks, of a ring of tops
+  pub ready : Readable s seq × Filled (s .side) (s .width) (values (s .m) (s .key) (spelled seq)) 0 0 (tabulate (λ _. top) 32)
+  ready =
+      (a, empty-ring (s .side) (s .width) (values (s .m) (s .key) (spelled seq)) (omega (arith, a .prepared .kIs, a .prepared .kFew, a .prepared .mSome)))
 
   -- a block that was read whole becomes the last one
   pub turn-read : {r : Reading} {ring new : List ℕ} → r .at ≡ s .width → Suffixes (s .width) ring new → Read s seq r ring
@@ -65,9 +75,8 @@ module _ (s : Settings) (seq : List ℕ) (a : Readable s seq) where
       → least ≡ min (getD ring at 0) run
       → block + bitAnd least (s .side - 1) ≡ getD (positionsOf s seq) (block + at) 0
   position-read {block} {at} {run} {ring} least m e =
-      let inside : block + at + s .k ≤ length seq = omega (arith, m .read, length-mers s seq a, a .prepared .kIs, a .prepared .wide) in
       let place = minima-place (s .side) (s .width) (4 ^ s .m) (values (s .m) (s .key) (spelled seq)) (mers s seq a) m in
-      rw (window-position s seq a (block + at) inside, a .prepared .placesAre least, e, place) (omega arith)
+      rw (window-position s seq a (block + at) (minima-inside m), a .prepared .placesAre least, e, place) (omega arith)
 
   -- a window's position lies in the sequence
   pub position-small : {r : Reading} {ring : List ℕ} → Read s seq r ring → r .position < 65536

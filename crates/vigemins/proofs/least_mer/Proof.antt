@@ -21,7 +21,7 @@ use Rattle.laws.specs.Numbers.{four-pos, length-digits, digits-below, window-cu
 use Rattle.laws.specs.Minima.{length-values, least-more, vigemin-word}
 use Rattle.laws.specs.Rolls.{values, value-mer}
 use Rattle.laws.specs.Accepted.{VigeminAccepted}
-use Rattle.words.specs.Powers.{powerOutcome}
+use Rattle.words.specs.Powers.{powerOutcome, power-four}
 use Rattle.vigemins.proofs.least_mer.Statement.{statement}
 use Rattle.vigemins.proofs.least_mer.Tie as tie
 
@@ -43,8 +43,8 @@ module _ {k m key kmer power : ℕ} (a : VigeminAccepted k m key kmer) (e : powe
   long = length-digits 4 k kmer
 
   -- the power that the mask is made of
-  power-four : power ≡ 4 ^ m
-  power-four = rw (e, le-leb m 31 (omega arith))
+  power-is : power ≡ 4 ^ m
+  power-is = e ∙ power-four m (omega arith)
 
   -- the m-mer at a place as the code cuts it out
   abbrev cutAt : ℕ → ℕ
@@ -53,7 +53,7 @@ module _ {k m key kmer power : ℕ} (a : VigeminAccepted k m key kmer) (e : powe
   module _ (p : ℕ) (h : p + m ≤ k) where
     -- it is the m letters from there on
     cut-mer : cutAt p ≡ val (take m (drop p x))
-    cut-mer = rw power-four (window-cut p m k kmer h)
+    cut-mer = rw power-is (window-cut p m k kmer h)
 
     -- its value is the one at that place
     cut-value : bitXor (cutAt p) key ≡ getD (values m key x) p 0
@@ -119,7 +119,7 @@ power-requires : tie.Need-power-requires Inv-loop μ-loop
 power-requires c κs = search needs
 
 sub-mask : tie.Need-sub-mask Inv-loop μ-loop
-sub-mask c = rw (power-four (c .before .pre) (c .power .ensures)) (one-le-pow (c .before .args .m) 4 four-pos)
+sub-mask c = rw (power-is (c .before .pre) (c .power .ensures)) (one-le-pow (c .before .args .m) 4 four-pos)
 
 sub-last : tie.Need-sub-last Inv-loop μ-loop
 sub-last c = search needs

@@ -2,11 +2,12 @@
 -- Assumes nothing.
 use Prim.Native.Nat.{ℕ, suc, _+_, _*_, _^_, _≤_, _<_}
 use mathlib.Core.Path.{_≡_, _∙_}
-use native.Mathlib.Nat.{mod-lt, one-le-pow, mul-le-mul-right, suc-mul}
+use native.Mathlib.Nat.{mod-lt, one-le-pow}
 use native.Mathlib.Omega.{arith}
 use borrow.Author.Needs.{needs}
 use lib.Bits.{bitXor}
 use Rattle.laws.specs.Numbers.{four-pos, xor-letters}
+use Rattle.laws.specs.Stamps.{stamp-room}
 use Rattle.words.specs.Letters.{codeOf}
 use Rattle.vigemins.specs.declared.Settings.{Settings}
 use Rattle.vigemins.specs.Readings.{top, Prepared, Rolled, rollOn}
@@ -22,7 +23,7 @@ module _ {s : Settings} (p : Prepared s) (byte : ℕ) {word next keyed : ℕ} (r
   fits : (v : ℕ) → word ≡ v * s .side → keyed + s .side ≤ suc top
   fits v h =
       let small : bitXor (rollOn s v byte) (s .key) < 4 ^ s .m = xor-letters (s .m) (mod-lt (v * 4 + codeOf byte) (one-le-pow (s .m) 4 four-pos)) (p .keySmall) in
-      omega (arith, value-high v h, p .stampsFit, mul-le-mul-right (s .side) small, suc-mul (bitXor (rollOn s v byte) (s .key)) (s .side))
+      rw (value-high v h) (stamp-room top (s .side) (4 ^ s .m) (omega (arith, p .stampsFit)) (bitXor (rollOn s v byte) (s .key)) small)
 
 roll-requires : tie.Need-roll-requires
 roll-requires c κs = search needs

@@ -2,15 +2,15 @@
 -- Assumes nothing.
 use Prim.Native.Nat.{ℕ, suc, _+_, _-_, _*_, _^_, _≤_, _<_}
 use mathlib.Core.Path.{_≡_, refl, _∙_}
-use native.Mathlib.Nat.{pow-suc, pow-le-pow-right, one-le-pow, mul-le-mul-right, suc-mul}
+use native.Mathlib.Nat.{pow-suc, pow-le-pow-right, one-le-pow}
 use native.Mathlib.Omega.{arith}
 use borrow.Author.Needs.{needs}
-use borrow.Author.Tests.{le-leb}
 use lib.Bits.{and-mask}
 use lib.Pow.{pow-add}
 use Rattle.laws.specs.Accepted.{OrderAccepted}
 use Rattle.laws.specs.Numbers.{four-pos, four-pow, xor-scale, twice-le-four}
-use Rattle.words.specs.Powers.{powerOutcome}
+use Rattle.laws.specs.Stamps.{stamp-room}
+use Rattle.words.specs.Powers.{powerOutcome, power-four}
 use Rattle.vigemins.specs.Readings.{top, SetTo}
 use Rattle.vigemins.proofs.prepare.Statement.{statement}
 use Rattle.vigemins.proofs.prepare.Tie as tie
@@ -18,7 +18,7 @@ use Rattle.vigemins.proofs.prepare.Tie as tie
 module _ {k m key power : ℕ} (a : OrderAccepted k m key) (e : power ≡ powerOutcome (31 - m)) where
   -- the side is a power of four
   side-is : power * 4 ≡ 4 ^ suc (31 - m)
-  side-is = rw (e, le-leb (31 - m) 31 (omega arith), pow-suc)
+  side-is = rw (e ∙ power-four (31 - m) (omega arith), pow-suc)
 
   -- as many letters as fill 64 bits
   side-fills : 4 ^ m * (power * 4) ≡ suc top
@@ -36,7 +36,7 @@ module _ {k m key power : ℕ} (a : OrderAccepted k m key) (e : power ≡ powerO
 
   -- the key times the side fits
   key-high : key * (power * 4) + power * 4 ≤ suc top
-  key-high = omega (arith, side-fills, mul-le-mul-right (power * 4) (a .keySmall), suc-mul key (power * 4))
+  key-high = stamp-room top (power * 4) (4 ^ m) (omega (arith, side-fills)) key (a .keySmall)
 
   -- the settings
   set-to : SetTo k m key (record { k = k; m = m; key = key; width = k - m + 1; side = power * 4; high = key * (power * 4) })

@@ -1,12 +1,13 @@
 -- `vigemins::roll` meets its contract: what goes out is dropped past the highest bits, and what comes in stands where no letter was.
 -- Assumes nothing.
-use Prim.Native.Nat.{ℕ, suc, _+_, _*_, _%_, _≤_}
+use Prim.Native.Nat.{ℕ, suc, _+_, _*_, _%_, _^_, _≤_}
 use mathlib.Core.Path.{_≡_}
-use native.Mathlib.Nat.{mod-lt, one-le-pow, mul-le-mul-right, suc-mul}
+use native.Mathlib.Nat.{mod-lt, one-le-pow, mul-le-mul-right}
 use native.Mathlib.Omega.{arith}
 use borrow.Author.Needs.{needs}
 use Rattle.laws.specs.Numbers.{four-pos}
 use Rattle.laws.specs.Rolls.{roll-high}
+use Rattle.laws.specs.Stamps.{stamp-room}
 use Rattle.words.specs.Letters.{codeOf, code-lt}
 use Rattle.vigemins.specs.declared.Settings.{Settings}
 use Rattle.vigemins.specs.Readings.{top, Prepared, rollOn}
@@ -21,8 +22,7 @@ module _ {s : Settings} (p : Prepared s) (byte : ℕ) where
 
   -- it is one of m letters
   fits : (v : ℕ) → rollOn s v byte * s .side + s .side ≤ suc top
-  fits v =
-      omega (arith, p .stampsFit, mul-le-mul-right (s .side) (mod-lt (v * 4 + codeOf byte) (one-le-pow (s .m) 4 four-pos)), suc-mul (rollOn s v byte) (s .side))
+  fits v = stamp-room top (s .side) (4 ^ s .m) (omega (arith, p .stampsFit)) (rollOn s v byte) (mod-lt (v * 4 + codeOf byte) (one-le-pow (s .m) 4 four-pos))
 
 letter-requires : tie.Need-letter-requires
 letter-requires c κs = search needs

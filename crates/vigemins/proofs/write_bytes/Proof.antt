@@ -7,12 +7,10 @@ use mathlib.Core.Path.{_≡_, refl, sym, _∙_}
 use native.Mathlib.Numerals.{add-one}
 use native.Mathlib.Omega.{arith}
 use lib.ListN.{length}
-use Rattle.definitions.specs.Words.{spelled}
 use Rattle.definitions.specs.Outcomes.{asBytes}
-use Rattle.laws.specs.Rolls.{values}
 use Rattle.laws.specs.Rooms.{overTo, overTo-bytes, overTo-all, length-asBytes}
 use Rattle.vigemins.specs.Readings.{positionsOf}
-use Rattle.vigemins.proofs.Windows.{empty-ring, Reached, length-positions, reached-first, next-place, reached-next, reached-position}
+use Rattle.vigemins.proofs.Windows.{ready, Reached, length-positions, reached-first, next-place, reached-next, reached-position}
 use Rattle.vigemins.proofs.write_bytes.Statement.{statement}
 use Rattle.vigemins.proofs.write_bytes.Tie as tie
 
@@ -28,9 +26,7 @@ abbrev μ-loop : tie.MeasureT-loop
 begin-requires : tie.Need-begin-requires Inv-loop μ-loop
 begin-requires c κs =
     let start = c .before .before .before in
-    let a = start .pre .readable in
-    let s = start .args .s in
-    (a, empty-ring (s .side) (s .width) (values (s .m) (s .key) (spelled (start .args .seq .now))) (omega (arith, a .prepared .kIs, a .prepared .kFew, a .prepared .mSome)))
+    ready (start .args .s) (start .args .seq .now) (start .pre .readable)
 
 put-requires : tie.Need-put-requires Inv-loop μ-loop
 put-requires c κs =

@@ -7,11 +7,9 @@ use mathlib.Core.Path.{_≡_, refl, sym, _∙_}
 use native.Mathlib.Numerals.{add-one}
 use native.Mathlib.Omega.{arith}
 use lib.ListN.{length, set, length-set}
-use Rattle.definitions.specs.Words.{spelled}
-use Rattle.laws.specs.Rolls.{values}
 use Rattle.laws.specs.Rooms.{overTo, overTo-more, overTo-all}
 use Rattle.vigemins.specs.Readings.{positionsOf}
-use Rattle.vigemins.proofs.Windows.{empty-ring, Reached, position-small, length-positions, reached-first, next-place, reached-next, reached-position}
+use Rattle.vigemins.proofs.Windows.{ready, Reached, position-small, length-positions, reached-first, next-place, reached-next, reached-position}
 use Rattle.vigemins.proofs.write_positions.Statement.{statement}
 use Rattle.vigemins.proofs.write_positions.Tie as tie
 
@@ -27,9 +25,7 @@ abbrev μ-loop : tie.MeasureT-loop
 begin-requires : tie.Need-begin-requires Inv-loop μ-loop
 begin-requires c κs =
     let start = c .before .before .before in
-    let a = start .pre .readable in
-    let s = start .args .s in
-    (a, empty-ring (s .side) (s .width) (values (s .m) (s .key) (spelled (start .args .seq .now))) (omega (arith, a .prepared .kIs, a .prepared .kFew, a .prepared .mSome)))
+    ready (start .args .s) (start .args .seq .now) (start .pre .readable)
 
 cast-room : tie.Need-cast-room Inv-loop μ-loop
 cast-room c =

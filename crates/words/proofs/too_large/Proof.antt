@@ -1,12 +1,13 @@
 -- `words::too_large` meets its contract: no number of 64 bits is too large for 32 letters or more, and below that the table tells.
 -- Assumes nothing.
 use Prim.Native.Nat.{_^_, _≤_}
-use mathlib.Core.Path.{sym}
+use mathlib.Core.Path.{sym, _∙_}
 use native.Mathlib.Nat.{pow-le-pow-right}
 use native.Mathlib.Omega.{arith}
 use borrow.Author.Needs.{needs}
-use borrow.Author.Tests.{le-leb, lt-leb}
+use borrow.Author.Tests.{lt-leb}
 use Rattle.laws.specs.Numbers.{four-pos}
+use Rattle.words.specs.Powers.{power-four}
 use Rattle.words.proofs.too_large.Statement.{statement}
 use Rattle.words.proofs.too_large.Tie as tie
 
@@ -22,7 +23,7 @@ power-requires c κs = search needs
 returns-2 : tie.Need-returns-2
 returns-2 c =
     let n = c .before .before .args .n in
-    rw (c .power .ensures, le-leb n 31 (c .before .if1 .left))
+    rw (c .power .ensures ∙ power-four n (c .before .if1 .left))
 
 pub too-large-spec : {M : Type 1} → statement M
 too-large-spec = tie.close (tie.spec returns power-requires returns-2)
