@@ -112,8 +112,11 @@ fn suffixes(ring: &mut [u64]) {
 /// The fastest of some twenty ways to write the same in one run: places in the whole sequence where they fit below
 /// the word, which is for m <= 24, and suffix minima two at a time.
 pub fn tuned_scan(k: u64, m: u64, key: u64, seq: &[u8], room: &mut [u8]) -> u64 {
-    let blocks = if m <= 24 { all_blocks::<true> } else { all_blocks::<false> };
-    served(k, m, key, seq, room, |places| blocks(k as usize, m as usize, key, seq, places))
+    let (window, mer) = (k as usize, m as usize);
+    served(k, m, key, seq, room, |places| match m {
+        ..=24 => all_blocks::<true>(window, mer, key, seq, places),
+        _ => all_blocks::<false>(window, mer, key, seq, places),
+    })
 }
 
 /// Turns letters into stamps: a word with the key applied and its place below, so that one `min` compares both and
@@ -240,8 +243,10 @@ fn all_blocks<const FAR: bool>(k: usize, m: usize, key: u64, seq: &[u8], places:
 
 /// By block minima as well, in two runs side by side and with a table of letters.
 pub fn paired_scan(k: u64, m: u64, key: u64, seq: &[u8], room: &mut [u8]) -> u64 {
-    let pair = if m <= 24 { pair::<true> } else { pair::<false> };
-    served(k, m, key, seq, room, |places| pair(k, m, key, seq, places))
+    served(k, m, key, seq, room, |places| match m {
+        ..=24 => pair::<true>(k, m, key, seq, places),
+        _ => pair::<false>(k, m, key, seq, places),
+    })
 }
 
 /// How words are rolled. A word has the key applied and lies in the top 2m bits, so the letter that leaves falls
