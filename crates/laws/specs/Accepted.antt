@@ -11,11 +11,11 @@ use borrow.Author.Tests.{ltb-true, ltb-false, le-ltb, leb-false, lt-leb, eqb-tru
 use lib.Dec.{ltb, eqb}
 use lib.ListN.{length}
 use Rattle.definitions.specs.Lists.{all}
-use Rattle.definitions.specs.Words.{word, isLetter}
+use Rattle.definitions.specs.Words.{Word, word, isLetter}
 use Rattle.definitions.specs.Vigemins.{Form, keyed, windows}
 use Rattle.definitions.specs.Shelves.{size}
 use Rattle.definitions.specs.Refusals.{Ground, refusal, badKey, badWord, badSequence, badLetter, badRoom, badStart, badCounter, firstBad, placeBeside}
-use Rattle.definitions.specs.Outcomes.{packGrounds, unpackGrounds, orderGrounds, shelfGrounds, counterGrounds, pageGrounds, scanGrounds, packAnswer, unpackAnswer, scanAnswer, asBytes, scanBytesOutcome}
+use Rattle.definitions.specs.Outcomes.{packGrounds, unpackGrounds, orderGrounds, shelfGrounds, counterGrounds, pageGrounds, scanGrounds, packAnswer, unpackAnswer, sizeAnswer, sizeOutcome, worksheetAnswer, scanAnswer, asBytes, scanBytesOutcome}
 use Rattle.laws.specs.Numbers.{firstBad-all}
 use Rattle.laws.specs.Refusals.{refusal-unmet, unmet-refusal, refusal-append, refusal-most}
 
@@ -196,6 +196,18 @@ unfolding unpackAnswer
 unpackAnswer-refusal zero x n room = refl
 unpackAnswer-refusal (suc r) x n room = refl
 
+-- of the size
+pub sizeAnswer-refusal : (r : ℕ) (f : Form) (k : ℕ) (w : Word) → sizeAnswer r f k w .refusal ≡ r
+unfolding sizeAnswer
+sizeAnswer-refusal zero f k w = refl
+sizeAnswer-refusal (suc r) f k w = refl
+
+-- of the worksheet
+pub worksheetAnswer-refusal : (r : ℕ) (f : Form) (k m : ℕ) (w : Word) → worksheetAnswer r f k m w .refusal ≡ r
+unfolding worksheetAnswer
+worksheetAnswer-refusal zero f k m w = refl
+worksheetAnswer-refusal (suc r) f k m w = refl
+
 -- of a scan
 pub scanAnswer-refusal : (r : ℕ) (entries : List ℕ → List ℕ) (f : Form) (k m : ℕ) (s room : List ℕ) → scanAnswer r entries f k m s room .refusal ≡ r
 unfolding scanAnswer
@@ -208,7 +220,13 @@ unfolding scanAnswer
 scanAnswer-place zero entries f k m s room = refl
 scanAnswer-place (suc r) entries f k m s room = refl
 
--- ---- the numbers of a refused scan are small
+-- ---- the numbers of a refused size and of a refused scan are small
+
+-- the size refuses by at most 4
+pub size-refusal-most : (k m key w : ℕ) → sizeOutcome k m key w .refusal ≤ 4
+unfolding sizeOutcome
+size-refusal-most k m key w =
+    rw (sizeAnswer-refusal (refusal (shelfGrounds k m key w)) (keyed (word m key)) k (word m w)) (refusal-most 4 (shelfGrounds k m key w) refl)
 
 module _ (k m key : ℕ) (s : List ℕ) (each : ℕ) (room : List ℕ) where
   -- no number of refusal is above 7

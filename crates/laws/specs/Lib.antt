@@ -13,6 +13,7 @@
 -- Split                     the size is the sum of antemers times postmers
 -- States, Threads           the states of a word w; reading a word beside w with all m-mers at once
 -- Acceptors, Tables, Pages  postmers, antemers and shelf words accepted by states; their tables; walking a shelf
+-- Falls, Bans               the next state by the one that a state falls to; the fewest letters left that ban a letter at a state
 -- Prefixes                  counts by shared prefix
 -- Rules, RulesHold          document 01's R, Σ and T, and that its rule holds
 -- ByPrefix, Antemers, Postmers   each of document 01's rules, by name
@@ -39,6 +40,8 @@ pub mod Threads
 pub mod Acceptors
 pub mod Tables
 pub mod Pages
+pub mod Falls
+pub mod Bans
 pub mod Prefixes
 pub mod Rules
 pub mod RulesHold

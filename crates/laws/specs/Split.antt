@@ -79,7 +79,7 @@ module _ {A : Type 0} (notLow equal high : A → Bool) where
 -- ---- sums
 
 -- the last entry of a sum
-total-last : (f : ℕ → ℕ) (n : ℕ) → total (tabulate f (suc n)) ≡ total (tabulate f n) + f n
+pub total-last : (f : ℕ → ℕ) (n : ℕ) → total (tabulate f (suc n)) ≡ total (tabulate f n) + f n
 total-last f zero = add-comm (f zero) zero
 total-last f (suc n) = ap (λ (r : ℕ). f zero + r) (total-last (λ i. f (suc i)) n) ∙ sym (add-assoc (f zero) (total (tabulate (λ i. f (suc i)) n)) (f (suc n)))
 

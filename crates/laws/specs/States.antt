@@ -104,19 +104,27 @@ module _ (w : Word) where
   longest-cong (suc n) p q h =
       ap₂ (λ (t : Bool) (k : ℕ). cond t (suc n) k) (h (suc n) (omega arith)) (longest-cong n p q (λ l k. h l (omega arith)))
 
+  -- what is longer than the longest match does not match
+  pub longest-above : (n : ℕ) (past : Word) (l : ℕ) → l ≤ n → longest n past < l → matches l past ≡ false
+  longest-above n past l h k = go (matches l past) refl
+    where
+      go : (t : Bool) → matches l past ≡ t → t ≡ false
+      go true e = absurd (let q : l ≤ longest n past = longest-max n past l h e in omega arith)
+      go false e = refl
+
+  -- the longest match of at most n letters tells every match of at most n letters
+  pub longest-tells : (n : ℕ) (past : Word) (l : ℕ) → l ≤ n → matches l past ≡ matches l (first (longest n past))
+  longest-tells n past l h = go (leb l (longest n past)) refl
+    where
+      go : (t : Bool) → leb l (longest n past) ≡ t → matches l past ≡ matches l (first (longest n past))
+      go true q = matches-first (longest n past) past l (longest-matches n past) (leb-true l (longest n past) q)
+      go false q =
+          let k : longest n past < l = leb-false l (longest n past) q in
+          longest-above n past l h k ∙ sym (matches-short (longest n past) l k)
+
   -- the state tells every match
   pub state-matches : (past : Word) (l : ℕ) → l ≤ length w → matches l past ≡ matches l (first (state past))
-  state-matches past l h = go (leb l (state past)) refl
-    where
-      no-match : state past < l → (t : Bool) → matches l past ≡ t → matches l past ≡ false
-      no-match k true e = absurd (let q : l ≤ state past = longest-max (length w) past l h e in omega arith)
-      no-match k false e = e
-
-      go : (t : Bool) → leb l (state past) ≡ t → matches l past ≡ matches l (first (state past))
-      go true q = matches-first (state past) past l (longest-matches (length w) past) (leb-true l (state past) q)
-      go false q =
-          let k : state past < l = leb-false l (state past) q in
-          no-match k (matches l past) refl ∙ sym (matches-short (state past) l k)
+  state-matches past l h = longest-tells (length w) past l h
 
   -- the state steps by letters
   pub state-step : (b : ℕ) (past : Word) → state (b ∷ past) ≡ next (state past) b

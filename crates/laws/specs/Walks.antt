@@ -1,7 +1,7 @@
 -- Walks: any acceptor that steps by states is counted by a table over the state and the letters left, and its r-th word, the place
 -- of a word and the next word are found by walking with the table.
 -- Assumes nothing.
-use Prim.Native.Nat.{ℕ, zero, suc, _+_, _-_, _≤_, _<_}
+use Prim.Native.Nat.{ℕ, zero, suc, _+_, _-_, _^_, _≤_, _<_}
 use mathlib.Core.Bool.{Bool, true, false, cond, _&&_}
 use mathlib.Core.List.{List, [], _∷_, _++_, map}
 use mathlib.Core.Option.{Option, none, some}
@@ -16,7 +16,7 @@ use Rattle.definitions.specs.Lists.{put, filter, total}
 use Rattle.definitions.specs.Words.{Word, Letters, Mer, letters, words}
 use Rattle.laws.specs.Filters.{joined, at-map, filter-fixed, length-cond, length-begun, filter-split}
 use Rattle.laws.specs.Numbers.{letters-at}
-use Rattle.laws.specs.Counting.{count, count-cong, filter-cong}
+use Rattle.laws.specs.Counting.{count, count-cong, count-le, filter-cong}
 use Rattle.laws.specs.Tests.{and-l, and-r, and-i, leb-cong}
 
 -- ---- tests over all words
@@ -194,6 +194,10 @@ module _ {S : Type 0} (ok : S → ℕ → ℕ → Bool) (step : S → ℕ → S)
   ways-count s zero = length-put (end s)
   ways-count s (suc n) =
       sym (ap length (accepts-split s n) ∙ length-begun (rest s n) letters ∙ ap (λ (c : ℕ → ℕ). total (map c letters)) (fun-ext (λ a. rest-count s n a (ways-count (step s a) n))))
+
+  -- and is at most 4 ^ n
+  pub ways-le : (s : S) (n : ℕ) → ways s n ≤ 4 ^ n
+  ways-le s n = rw (ways-count s n) (count-le (accepts s) n)
 
   -- a test that agrees with the acceptor counts what the table does
   pub count-accepted : (p : Word → Bool) (s : S) (n : ℕ) → ((y : Word) → Letters y → p y ≡ accepts s y) → count p n ≡ ways s n

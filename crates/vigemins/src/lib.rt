@@ -62,7 +62,7 @@ fn least_mer(k: u64, m: u64, key: u64, kmer: u64) -> Found
 pub fn vigemin(k: u64, m: u64, key: u64, kmer: u64) -> Found
     ensures { λ r. ⌜ found r ≡ vigeminOutcome k m key kmer ⌝ }
 {
-    let refusal = words::order_refusal(k, m, key);
+    let refusal = words::word_refusal(k, m, key, k, kmer);
     if refusal != 0 {
         return Found {
             refusal,
@@ -70,21 +70,7 @@ pub fn vigemin(k: u64, m: u64, key: u64, kmer: u64) -> Found
             position: 0,
         };
     }
-    if words::too_large(k, kmer) {
-        return Found {
-            refusal: 4,
-            word: 0,
-            position: 0,
-        };
-    }
     least_mer(k, m, key, kmer)
-}
-
-// The lesser of two numbers.
-fn lesser(a: u64, b: u64) -> u64
-    ensures { λ r. ⌜ r ≡ min a b ⌝ }
-{
-    if b < a { b } else { a }
 }
 
 // Turns each of the first entries of the ring into the least of those from its place on.
@@ -96,7 +82,7 @@ fn suffixes(width: u64, ring: &mut [u64; 32])
     let mut least = ring[i as usize];
     while 0 < i {
         i -= 1;
-        least = lesser(ring[i as usize], least);
+        least = words::lesser(ring[i as usize], least);
         ring[i as usize] = least;
     }
 }
@@ -197,7 +183,7 @@ fn begin(s: Settings, seq: &[u8], ring: &mut [u64; 32]) -> Reading
         let place = before + at;
         let mer = next_mer(s, word, seq[place as usize], at);
         word = mer.word;
-        run = lesser(run, mer.stamp);
+        run = words::lesser(run, mer.stamp);
         ring[at as usize] = mer.stamp;
         at += 1;
     }
@@ -241,9 +227,9 @@ fn step(s: Settings, r: Reading, seq: &[u8], place: u64, ring: &mut [u64; 32]) -
     let mer = next_mer(s, r.word, seq[place as usize], at);
     ring[at as usize] = mer.stamp;
     let far = mer.stamp + s.width;
-    let run = lesser(r.run, far);
+    let run = words::lesser(r.run, far);
     let next = at + 1;
-    let least = lesser(ring[next as usize], run);
+    let least = words::lesser(ring[next as usize], run);
     let position = r.block + (least & (s.side - 1));
     Reading {
         word: mer.word,

@@ -1,11 +1,12 @@
 // Words: the powers of four and the range tests, letters and bytes, packing and unpacking. Assumes nothing.
 ghost use mathlib.Core.Path.{_≡_};
-ghost use Prim.Native.Nat.{_^_, _<_};
+ghost use mathlib.Core.List.{[], _∷_, _++_};
+ghost use Prim.Native.Nat.{_^_, _<_, min};
 ghost use lib.Dec.{leb};
 ghost use lib.ListN.{getD};
 ghost use Rattle.definitions.specs.Lists.{all, over};
 ghost use Rattle.definitions.specs.Words.{val, isLetter, spelled, capitals, word as wordOf, text as written};
-ghost use Rattle.definitions.specs.Refusals.{refusal, badKey, firstBad};
+ghost use Rattle.definitions.specs.Refusals.{refusal, badKey, badWord, firstBad};
 ghost use Rattle.definitions.specs.Outcomes.{orderGrounds, packOutcome, unpackOutcome};
 ghost use Rattle.laws.specs.Accepted.{PackAccepted, UnpackAccepted};
 ghost use Rattle.words.specs.Powers.{powerOutcome};
@@ -58,6 +59,13 @@ pub fn power(n: u64) -> u64
     POWERS[n as usize]
 }
 
+// The lesser of two numbers.
+pub fn lesser(a: u64, b: u64) -> u64
+    ensures { λ r. ⌜ r ≡ min a b ⌝ }
+{
+    if b < a { b } else { a }
+}
+
 // Whether a word is too large for n letters.
 pub fn too_large(n: u64, word: u64) -> bool
     ensures { λ r. ⌜ r ≡ leb (4 ^ n) word ⌝ }
@@ -80,6 +88,20 @@ pub fn order_refusal(k: u64, m: u64, key: u64) -> u64
     }
     if too_large(m, key) {
         return 3;
+    }
+    0
+}
+
+// The refusal of k, m and the key, or 4 where a word is too large for n letters, or 0 for none.
+pub fn word_refusal(k: u64, m: u64, key: u64, n: u64, word: u64) -> u64
+    ensures { λ r. ⌜ r ≡ refusal (orderGrounds k m (badKey m key) ++ (badWord n word ∷ [])) ⌝ }
+{
+    let refusal = order_refusal(k, m, key);
+    if refusal != 0 {
+        return refusal;
+    }
+    if too_large(n, word) {
+        return 4;
     }
     0
 }

@@ -1,8 +1,8 @@
--- `vigemins::lesser` meets its contract, by cases of the test.
+-- `words::lesser` meets its contract, by cases of the test.
 -- Assumes nothing.
 use native.Mathlib.Omega.{arith}
-use Rattle.vigemins.proofs.lesser.Statement.{statement}
-use Rattle.vigemins.proofs.lesser.Tie as tie
+use Rattle.words.proofs.lesser.Statement.{statement}
+use Rattle.words.proofs.lesser.Tie as tie
 
 returns : tie.Need-returns
 returns c = omega arith

@@ -1,0 +1,130 @@
+-- The next states and the bans of the states below state i, and one state more.
+-- Assumes nothing.
+use Prim.Native.Nat.{ℕ, zero, suc, _+_, _-_, _*_, _≤_, _<_}
+use mathlib.Core.Bool.{cond}
+use mathlib.Core.List.{List, _∷_, map}
+use mathlib.Core.Path.{_≡_, refl, sym, ap, fun-ext, _∙_}
+use native.Mathlib.Omega.{arith}
+use borrow.Author.Tests.{lt-leb}
+use lib.Dec.{leb}
+use lib.ListN.{length, getD, take, drop}
+use lib.Seq.{sets}
+use Rattle.definitions.specs.Words.{Word, letters}
+use Rattle.laws.specs.Filters.{tabulate-at}
+use Rattle.laws.specs.Numbers.{letter-lt}
+use Rattle.laws.specs.Orders.{Ranking}
+use Rattle.laws.specs.States.{first, next, longest-le}
+use Rattle.laws.specs.Falls.{fall, fallen, fall-le, fall-by-next}
+use Rattle.laws.specs.Bans.{never, ban, lowBy}
+use Rattle.states.specs.Grids.{grid, length-grid, grid-row, grid-at}
+use Rattle.states.specs.Tables.{nextBy, banBy, markAt, nextAt, banAt, AlphabetsOf, LinksOf}
+use Rattle.states.proofs.Rows.{row-agree, written, written-all, write-row}
+use Rattle.states.proofs.Marks.{at-fall, next-by-mark, ban-by-mark}
+
+-- tables of which the rows below state i are written, and the state that state i falls to
+pub record Reached (ρ : Ranking) (w : Word) (i now : ℕ) (nexts bans : List ℕ) : Type 0 where
+  pub nextRows : nexts ≡ grid (written i (λ b. 0) (nextAt w))
+  pub banRows : bans ≡ grid (written i (λ b. never) (banAt ρ w))
+  pub falls : i ≤ length w → now ≡ fall w i
+
+-- at first no row is written
+pub reached-first : (ρ : Ranking) (w : Word) → Reached ρ w 0 0 (grid (λ s b. 0)) (grid (λ s b. never))
+reached-first ρ w = record { nextRows = refl; banRows = refl; falls = λ h. refl }
+
+-- past the last state the tables are whole
+pub reached-last : {ρ : Ranking} {w : Word} {i now : ℕ} {nexts bans : List ℕ} → Reached ρ w i now nexts bans → length w < i → LinksOf ρ w nexts bans
+reached-last {ρ} {w} {i} r h = record {
+  nexts = r .nextRows ∙ ap grid (written-all (λ b. 0) (nextAt w) i (λ s k. fun-ext (λ b. rw (lt-leb s (length w) (omega arith)))));
+  bans = r .banRows ∙ ap grid (written-all (λ b. never) (banAt ρ w) i (λ s k. fun-ext (λ b. rw (lt-leb s (length w) (omega arith)))));
+}
+
+-- no state falls above itself
+fall-most : (w : Word) (i : ℕ) → fall w i ≤ i
+fall-most w zero = omega arith
+fall-most w (suc i) = omega (arith, fall-le w i)
+
+-- what follows from the state that a state falls to is a state
+fallen-most : (w : Word) (i b : ℕ) → fallen w 0 (λ s. next w s b) i ≤ length w
+fallen-most w zero b = omega arith
+fallen-most w (suc i) b = longest-le w (length w) (b ∷ first w (fall w (suc i)))
+
+-- what is read at state i lies in the tables
+pub record Going (m i now : ℕ) (own marks nexts bans : List ℕ) : Type 0 where
+  pub few : m ≤ 31
+  pub low : now < 32
+  pub letter : getD own i 0 < 4
+  pub after : getD nexts (4 * now + getD own i 0) 0 ≤ 31
+  pub markLong : length marks ≡ 128
+  pub nextLong : length nexts ≡ 128
+  pub banLong : length bans ≡ 128
+
+module _ {ρ : Ranking} {w : Word} {m : ℕ} {own marks : List ℕ} (a : AlphabetsOf ρ w m own marks) {i now : ℕ} {nexts bans : List ℕ}
+    (r : Reached ρ w i now nexts bans) (h : i ≤ m) where
+  -- state i is one of w
+  inside : i ≤ length w
+  inside = rw (a .long) h
+
+  -- the state that it falls to has its row
+  small : now < 32
+  small = omega (arith, r .falls inside, fall-most w i, a .few)
+
+  -- what is read at place i is w's letter there
+  letter-is : getD own i 0 ≡ getD w i 0
+  letter-is = rw (a .owns) (tabulate-at (λ p. getD w p 0) 32 i 0 (omega (arith, a .few)))
+
+  -- which is a letter
+  letter-small : getD own i 0 < 4
+  letter-small = rw letter-is (letter-lt w i (a .letters))
+
+  -- what is read for the state after i
+  after-is : getD nexts (4 * now + getD own i 0) 0 ≡ fallen w 0 (λ s. next w s (getD w i 0)) i
+  after-is =
+      ap (λ (l : List ℕ). getD l (4 * now + getD own i 0) 0) (r .nextRows)
+      ∙ grid-at (written i (λ b. 0) (nextAt w)) now (getD own i 0) small letter-small
+      ∙ rw (letter-is, r .falls inside) (ap (λ (g : ℕ → ℕ). g (getD w i 0)) (at-fall w 0 (next w) i inside))
+
+  -- state i can be gone through
+  pub going : Going m i now own marks nexts bans
+  going = record {
+    few = a .few;
+    low = small;
+    letter = letter-small;
+    after = omega (arith, after-is, fallen-most w i (getD w i 0), a .long, a .few);
+    markLong = ap length (a .ranks) ∙ length-grid (markAt ρ w);
+    nextLong = ap length (r .nextRows) ∙ length-grid (written i (λ b. 0) (nextAt w));
+    banLong = ap length (r .banRows) ∙ length-grid (written i (λ b. never) (banAt ρ w));
+  }
+
+  -- the marks of state i
+  marks-here : {row : List ℕ} → row ≡ take 4 (drop (4 * i) marks) → row ≡ map (markAt ρ w i) letters
+  marks-here e = e ∙ ap (λ (l : List ℕ). take 4 (drop (4 * i) l)) (a .ranks) ∙ grid-row (markAt ρ w) i (omega (arith, a .few))
+
+  -- the row of the state that it falls to
+  row-fallen : (d : ℕ) (f : ℕ → ℕ → ℕ) {table row : List ℕ} → table ≡ grid (written i (λ b. d) (λ s b. cond (leb s (length w)) (f s b) d))
+      → row ≡ take 4 (drop (4 * now) table) → row ≡ map (λ b. fallen w d (λ s. f s b) i) letters
+  row-fallen d f q e =
+      e ∙ ap (λ (l : List ℕ). take 4 (drop (4 * now) l)) q ∙ grid-row (written i (λ b. d) (λ s b. cond (leb s (length w)) (f s b) d)) now small
+      ∙ rw (r .falls inside) (ap (λ (g : ℕ → ℕ). map g letters) (at-fall w d f i inside))
+
+  -- the row of next states of state i, by its marks and by that of the state that it falls to
+  next-here : {here lower row : List ℕ} → here ≡ take 4 (drop (4 * i) marks) → lower ≡ take 4 (drop (4 * now) nexts)
+      → row ≡ map (λ b. nextBy (getD here b 0) i (getD lower b 0)) letters → row ≡ map (nextAt w i) letters
+  next-here p q e =
+      e ∙ rw (marks-here p, row-fallen 0 (next w) (r .nextRows) q) (row-agree (λ b k. next-by-mark ρ w (a .one) (a .letters) i b inside k))
+
+  -- and its row of bans
+  ban-here : {here lower row : List ℕ} → here ≡ take 4 (drop (4 * i) marks) → lower ≡ take 4 (drop (4 * now) bans)
+      → row ≡ map (λ b. banBy (getD here b 0) (m - i) (getD lower b 0)) letters → row ≡ map (banAt ρ w i) letters
+  ban-here p q e =
+      e ∙ rw (marks-here p, row-fallen never (ban w (lowBy ρ w)) (r .banRows) q, ← a .long) (row-agree (λ b k. ban-by-mark ρ w i b inside))
+
+  -- one state more
+  pub reached-more : {here lower₁ row₁ lower₂ row₂ nexts′ bans′ : List ℕ} → here ≡ take 4 (drop (4 * i) marks)
+      → lower₁ ≡ take 4 (drop (4 * now) nexts) → row₁ ≡ map (λ b. nextBy (getD here b 0) i (getD lower₁ b 0)) letters → nexts′ ≡ sets nexts (4 * i) row₁
+      → lower₂ ≡ take 4 (drop (4 * now) bans) → row₂ ≡ map (λ b. banBy (getD here b 0) (m - i) (getD lower₂ b 0)) letters → bans′ ≡ sets bans (4 * i) row₂
+      → Reached ρ w (suc i) (getD nexts (4 * now + getD own i 0) 0) nexts′ bans′
+  reached-more p q₁ e₁ s₁ q₂ e₂ s₂ = record {
+    nextRows = s₁ ∙ write-row (λ b. 0) (nextAt w) i (omega (arith, a .few)) (r .nextRows) (next-here p q₁ e₁);
+    banRows = s₂ ∙ write-row (λ b. never) (banAt ρ w) i (omega (arith, a .few)) (r .banRows) (ban-here p q₂ e₂);
+    falls = λ k. after-is ∙ sym (fall-by-next w i k);
+  }

@@ -1,0 +1,175 @@
+-- `states::special_alphabets` meets its contract. The loop's invariant: the first p rows of both tables are written. The measure is how many
+-- letters are left.
+-- Assumes nothing.
+use Prim.Native.Nat.{ℕ, suc, _-_, _*_, _/_, _%_, _^_, _≤_, _<_}
+use mathlib.Core.List.{List, [], _∷_, map}
+use mathlib.Core.Path.{_≡_, refl, ap, fun-ext, _∙_}
+use native.Mathlib.Numerals.{add-one}
+use native.Mathlib.Omega.{arith}
+use borrow.Author.Needs.{needs}
+use borrow.Author.Tests.{lt-ltb, le-ltb}
+use lib.Bits.{bitXor}
+use lib.ListN.{length, getD, set, List·getD-eq-default}
+use lib.Seq.{sets}
+use Rattle.definitions.specs.Lists.{tabulate}
+use Rattle.definitions.specs.Words.{Word, letters, word as wordOf}
+use Rattle.laws.specs.Numbers.{four-pos, four-pow, length-digits, digits-below, digits-at}
+use Rattle.laws.specs.Orders.{Ranking, keyRanking, keyed-one-to-one}
+use Rattle.states.specs.Grids.{grid, length-grid}
+use Rattle.states.specs.Tables.{markOf, ownOf, markAt}
+use Rattle.states.proofs.Rows.{written, written-all, write-entry, write-row}
+use Rattle.states.proofs.special_alphabets.Statement.{statement}
+use Rattle.states.proofs.special_alphabets.Tie as tie
+
+-- the tables of which the first p rows are written
+record Marked (ρ : Ranking) (w : Word) (p : ℕ) (own marks : List ℕ) : Type 0 where
+  owns : own ≡ tabulate (written p 0 (λ q. getD w q 0)) 32
+  ranks : marks ≡ grid (written p (λ b. 2) (markAt ρ w))
+
+-- at first no row is written
+marked-first : (ρ : Ranking) (w : Word) → Marked ρ w 0 (tabulate (λ q. 0) 32) (grid (λ q b. 2))
+marked-first ρ w = record { owns = refl; ranks = refl }
+
+module _ {ρ : Ranking} {w : Word} {p : ℕ} {own marks : List ℕ} (d : Marked ρ w p own marks) where
+  -- one row more
+  marked-more : p < 32 → {letter : ℕ} {row marks′ : List ℕ} → getD w p 0 ≡ letter → row ≡ map (markAt ρ w p) letters → marks′ ≡ sets marks (4 * p) row
+      → Marked ρ w (suc p) (set own p letter) marks′
+  marked-more h e q s = record {
+    owns = rw (← e, d .owns) (write-entry 0 (λ q. getD w q 0) 32 p h);
+    ranks = s ∙ write-row (λ b. 2) (markAt ρ w) p h (d .ranks) q;
+  }
+
+  -- with all letters read, the table of w's letters is whole
+  owns-all : length w ≤ p → own ≡ ownOf w
+  owns-all h = d .owns ∙ ap (λ (f : ℕ → ℕ). tabulate f 32) (written-all 0 (λ q. getD w q 0) p (λ q k. List·getD-eq-default w 0 (omega arith)))
+
+  -- and so is that of the marks
+  ranks-all : length w ≤ p → marks ≡ grid (markAt ρ w)
+  ranks-all h = d .ranks ∙ ap grid (written-all (λ b. 2) (markAt ρ w) p (λ q k. fun-ext (λ b. rw (le-ltb q (length w) (omega arith)))))
+
+-- the letter at a place of a word
+letter-at : (m x p : ℕ) → p < m → getD (wordOf m x) p 0 ≡ x / 2 ^ (2 * (m - 1 - p)) % 4
+letter-at m x p h = rw four-pow at (digits-at 4 m x p (m - 1 - p) (omega arith))
+
+-- the marks at a place, by the two letters that stand there
+marks-at : (m key x p : ℕ) → p < m → {letter turn a c g t : ℕ} → getD (wordOf m x) p 0 ≡ letter → getD (wordOf m key) p 0 ≡ turn
+    → a ≡ markOf (bitXor 0 turn) (bitXor letter turn) → c ≡ markOf (bitXor 1 turn) (bitXor letter turn)
+    → g ≡ markOf (bitXor 2 turn) (bitXor letter turn) → t ≡ markOf (bitXor 3 turn) (bitXor letter turn)
+    → a ∷ c ∷ g ∷ t ∷ [] ≡ map (markAt (keyRanking (wordOf m key)) (wordOf m x) p) letters
+marks-at m key x p h e q ea ec eg et = rw (ea, ec, eg, et, lt-ltb p (length (wordOf m x)) (rw length-digits h), e, q)
+
+abbrev Inv-loop : tie.InvT-loop
+Inv-loop k m key word own₀ marks₀ p₀ own marks p = (p ≤ m) × Marked (keyRanking (wordOf m key)) (wordOf m word) p own marks
+
+abbrev μ-loop : tie.MeasureT-loop
+μ-loop k m key word own₀ marks₀ p₀ own marks p = m - p
+
+loop-holds : tie.Need-loop-holds Inv-loop μ-loop
+loop-holds c = (omega arith, marked-first (keyRanking (wordOf (c .args .m) (c .args .key))) (wordOf (c .args .m) (c .args .word)))
+
+sub-shift : tie.Need-sub-shift Inv-loop μ-loop
+sub-shift c = search needs
+
+sub-shift-2 : tie.Need-sub-shift-2 Inv-loop μ-loop
+sub-shift-2 c = search needs
+
+mul-shift : tie.Need-mul-shift Inv-loop μ-loop
+mul-shift c =
+    let few = c .before .before .pre .order in
+    omega (arith, few .kFew, few .mFits)
+
+shr-letter : tie.Need-shr-letter Inv-loop μ-loop
+shr-letter c =
+    let few = c .before .before .pre .order in
+    omega (arith, few .kFew, few .mFits)
+
+shr-turn : tie.Need-shr-turn Inv-loop μ-loop
+shr-turn c =
+    let few = c .before .before .pre .order in
+    omega (arith, few .kFew, few .mFits)
+
+cast-own : tie.Need-cast-own Inv-loop μ-loop
+cast-own c = search needs
+
+array-write-own : tie.Need-array-write-own Inv-loop μ-loop
+array-write-own c =
+    let few = c .before .before .pre .order in
+    omega (arith, few .kFew, few .mFits)
+
+mark-requires : tie.Need-mark-requires Inv-loop μ-loop
+mark-requires c κs = tt
+
+mark-requires-2 : tie.Need-mark-requires-2 Inv-loop μ-loop
+mark-requires-2 c κs = tt
+
+mark-requires-3 : tie.Need-mark-requires-3 Inv-loop μ-loop
+mark-requires-3 c κs = tt
+
+mark-requires-4 : tie.Need-mark-requires-4 Inv-loop μ-loop
+mark-requires-4 c κs = tt
+
+put-requires : tie.Need-put-requires Inv-loop μ-loop
+put-requires c κs =
+    let few = c .before .before .before .before .before .before .before .pre .order in
+    (omega (arith, few .kFew, few .mFits), ap length (c .before .before .before .before .before .before .loop .inv .1 .ranks) ∙ length-grid (λ p b. 0))
+
+add-p : tie.Need-add-p Inv-loop μ-loop
+add-p c =
+    let few = c .before .before .before .before .before .before .before .before .pre .order in
+    omega (arith, few .kFew, few .mFits)
+
+loop-less : tie.Need-loop-less Inv-loop μ-loop
+loop-less c = omega arith
+
+loop-again : tie.Need-loop-again Inv-loop μ-loop
+loop-again c =
+    let start = c .before .before .before .before .before .before .before .before in
+    let at = c .before .before .before .before .before .before .before .loop in
+    let m = start .args .m in
+    let letter = letter-at m (start .args .word) (at .p) (omega arith) in
+    let turn = letter-at m (start .args .key) (at .p) (omega arith) in
+    let last = c .before .before in
+    let row = marks-at m (start .args .key) (start .args .word) (at .p) (omega arith) letter turn
+    (last .before .before .before .mark .ensures) (last .before .before .mark2 .ensures) (last .before .mark3 .ensures) (last .mark4 .ensures) in
+    (omega arith, rw add-one (marked-more (at .inv .1) (omega (arith, start .pre .order .kFew, start .pre .order .mFits)) letter row (c .put .ensures)))
+
+returns : tie.Need-returns Inv-loop μ-loop
+returns c =
+    let at = c .before .loop in
+    let start = c .before .before in
+    let m = start .args .m in
+    let order = start .pre .order in
+    let end : length (wordOf m (start .args .word)) ≤ at .p = rw length-digits (omega arith) in
+    record {
+      one = keyed-one-to-one (wordOf m (start .args .key)) (digits-below four-pos m (start .args .key));
+      letters = digits-below four-pos m (start .args .word);
+      long = length-digits 4 m (start .args .word);
+      some = order .mSome;
+      few = omega (arith, order .kFew, order .mFits);
+      owns = owns-all (at .inv .1) end;
+      ranks = ranks-all (at .inv .1) end;
+    }
+
+pub special-alphabets-spec : {M : Type 1} → statement M
+special-alphabets-spec =
+    tie.close
+    (tie.spec
+    Inv-loop
+    μ-loop
+    loop-holds
+    sub-shift
+    sub-shift-2
+    mul-shift
+    shr-letter
+    shr-turn
+    cast-own
+    array-write-own
+    mark-requires
+    mark-requires-2
+    mark-requires-3
+    mark-requires-4
+    put-requires
+    add-p
+    loop-less
+    loop-again
+    returns)

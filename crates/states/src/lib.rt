@@ -1,0 +1,237 @@
+// The states of a word w under a key, prepared once for a call. State i is document 01's shared prefix of i letters: the latest i letters read
+// are the first i of w, and no more are. Nothing that counts or lists a shelf reads the key: it reads these tables. Assumes nothing.
+//
+//   document 01         here
+//   a(i+1), Σ(i+1)      own[i] is w's letter at place i, from 0; marks, at row i and letter b, says whether b ranks below it, is it, or ranks
+//                       above it, that is lies in Σ(i+1). Σ(m+1) has all four letters, and so has every row from m on
+//   R(i,j) equal        a state tied with state i: the latest i−j+1 of the first i letters of w are its first ones. `fall` is the longest of
+//                       these below i, and what holds of the others holds of them at `fall`
+//   T, and i−T+2        next, at row i and letter b: the state after b, the longest one that is still tied. Where b is w's own letter that is
+//                       i+1; else it is what follows from `fall`
+//   a letter is banned  where some tied m-mer exists and b ranks below w's letter in it. ban, at row i and letter b, has the fewest letters left,
+//                       b among them, at which that is so; NEVER where it never is. Among tied m-mers the one that began last is the first to end
+//                       too late, so the longest tied state at which b ranks below decides
+ghost use mathlib.Core.Path.{_≡_};
+ghost use mathlib.Core.List.{map};
+ghost use Prim.Native.Nat.{_*_, _≤_, _<_};
+ghost use lib.ListN.{length, getD, take, drop};
+ghost use lib.Seq.{sets};
+ghost use Rattle.definitions.specs.Words.{word as wordOf, letters};
+ghost use Rattle.laws.specs.Accepted.{ShelfAccepted};
+ghost use Rattle.laws.specs.Orders.{keyRanking};
+ghost use Rattle.states.specs.Tables.{markOf, nextBy, banBy, AlphabetsOf, Alphabetic, Linked};
+ghost use Rattle.states.specs.Answers.{fourOf, prepareOutcome, prepared};
+
+// How a letter ranks beside w's own letter.
+const BELOW: u8 = 0;
+
+const EQUAL: u8 = 1;
+
+const ABOVE: u8 = 2;
+
+// More letters than are ever left.
+const NEVER: u8 = 64;
+
+// A row of a table: one byte for each letter.
+struct Four {
+    a: u8,
+    c: u8,
+    g: u8,
+    t: u8,
+}
+
+// The row of a state.
+fn row(table: &[u8; 128], state: u64) -> Four
+    requires { ⌜ (state < 32) × (length (now table) ≡ 128) ⌝ }
+    ensures { λ r. ⌜ fourOf r ≡ take 4 (drop (4 * state) (now (table .entry))) ⌝ }
+{
+    let at = (4 * state) as usize;
+    Four {
+        a: table[at],
+        c: table[at + 1],
+        g: table[at + 2],
+        t: table[at + 3],
+    }
+}
+
+// Writes the row of a state.
+fn put(row: Four, state: u64, table: &mut [u8; 128])
+    requires { ⌜ (state < 32) × (length (now table) ≡ 128) ⌝ }
+    ensures { λ _. ⌜ now (table .exit) ≡ sets (now (table .entry)) (4 * state) (fourOf row) ⌝ }
+{
+    let at = (4 * state) as usize;
+    table[at] = row.a;
+    table[at + 1] = row.c;
+    table[at + 2] = row.g;
+    table[at + 3] = row.t;
+}
+
+// How a rank stands beside that of w's own letter.
+fn mark(rank: u64, own: u64) -> u8
+    ensures { λ r. ⌜ r ≡ markOf rank own ⌝ }
+{
+    if rank < own {
+        return BELOW;
+    }
+    if rank == own {
+        return EQUAL;
+    }
+    ABOVE
+}
+
+// The special alphabets of a word: w's own letter at each place, and how each letter ranks beside it.
+struct Alphabets {
+    own: [u8; 32],
+    marks: [u8; 128],
+}
+
+// The special alphabets under a key, where the rank of a letter is its sum with the key's letter. What comes after reads no key.
+fn special_alphabets(k: u64, m: u64, key: u64, word: u64) -> Alphabets
+    requires { ⌜ ShelfAccepted k m key word ⌝ }
+    ensures { λ r. ⌜ AlphabetsOf (keyRanking (wordOf m key)) (wordOf m word) m (r .own) (r .marks) ⌝ }
+{
+    let mut own: [u8; 32] = [0; 32];
+    let mut marks: [u8; 128] = [ABOVE; 128];
+    let mut p: u64 = 0;
+    while p < m {
+        let shift = 2 * (m - 1 - p);
+        let letter = (word >> shift) % 4;
+        let turn = (key >> shift) % 4;
+        let rank = letter ^ turn;
+        own[p as usize] = letter as u8;
+        let marked = Four {
+            a: mark(0 ^ turn, rank),
+            c: mark(1 ^ turn, rank),
+            g: mark(2 ^ turn, rank),
+            t: mark(3 ^ turn, rank),
+        };
+        put(marked, p, &mut marks);
+        p += 1;
+    }
+    Alphabets { own, marks }
+}
+
+// The state after a letter with such a mark: state i and one more, or what follows from the state that i falls to.
+fn next_state(mark: u8, i: u64, fallen: u8) -> u8
+    requires { ⌜ i ≤ 31 ⌝ }
+    ensures { λ r. ⌜ r ≡ nextBy mark i fallen ⌝ }
+{
+    if mark == EQUAL {
+        return (i + 1) as u8;
+    }
+    fallen
+}
+
+// When a letter with such a mark is banned: as soon as the m-mer that began with these states exists, or as at the state that i falls to.
+fn banned_from(mark: u8, left: u64, fallen: u8) -> u8
+    requires { ⌜ left ≤ 31 ⌝ }
+    ensures { λ r. ⌜ r ≡ banBy mark left fallen ⌝ }
+{
+    if mark == BELOW {
+        return left as u8;
+    }
+    fallen
+}
+
+// For each state and letter the next state, and when the letter is banned.
+struct Links {
+    next: [u8; 128],
+    ban: [u8; 128],
+}
+
+// The row of next states.
+fn next_row(marks: Four, i: u64, fallen: Four) -> Four
+    requires { ⌜ i ≤ 31 ⌝ }
+    ensures { λ r. ⌜ fourOf r ≡ map (λ b. nextBy (getD (fourOf marks) b 0) i (getD (fourOf fallen) b 0)) letters ⌝ }
+{
+    Four {
+        a: next_state(marks.a, i, fallen.a),
+        c: next_state(marks.c, i, fallen.c),
+        g: next_state(marks.g, i, fallen.g),
+        t: next_state(marks.t, i, fallen.t),
+    }
+}
+
+// The row of bans.
+fn ban_row(marks: Four, left: u64, fallen: Four) -> Four
+    requires { ⌜ left ≤ 31 ⌝ }
+    ensures { λ r. ⌜ fourOf r ≡ map (λ b. banBy (getD (fourOf marks) b 0) left (getD (fourOf fallen) b 0)) letters ⌝ }
+{
+    Four {
+        a: banned_from(marks.a, left, fallen.a),
+        c: banned_from(marks.c, left, fallen.c),
+        g: banned_from(marks.g, left, fallen.g),
+        t: banned_from(marks.t, left, fallen.t),
+    }
+}
+
+// Goes through the states from 0 to m. A state's rows follow from its marks and from the rows of the state that it falls to; state 0 falls
+// to none, and finds in its own rows what they are set to at first: no letter leads on, and none is banned.
+fn link_states(m: u64, own: &[u8; 32], marks: &[u8; 128]) -> Links
+    requires { ⌜ Alphabetic m (now own) (now marks) ⌝ }
+    ensures { λ r. ⌜ Linked m (now (own .entry)) (now (marks .entry)) (r .next) (r .ban) ⌝ }
+{
+    let mut next: [u8; 128] = [0; 128];
+    let mut ban: [u8; 128] = [NEVER; 128];
+    let mut fall: u64 = 0;
+    let mut i: u64 = 0;
+    while i <= m {
+        let here = row(marks, i);
+        let letter = own[i as usize] as u64;
+        let after = next[(4 * fall + letter) as usize] as u64;
+        let next_here = next_row(here, i, row(&next, fall));
+        let ban_here = ban_row(here, m - i, row(&ban, fall));
+        put(next_here, i, &mut next);
+        put(ban_here, i, &mut ban);
+        fall = after;
+        i += 1;
+    }
+    Links { next, ban }
+}
+
+// The states of a word: the special alphabets, the next states and the bans.
+pub struct States {
+    pub own: [u8; 32],
+    pub marks: [u8; 128],
+    pub next: [u8; 128],
+    pub ban: [u8; 128],
+}
+
+// What preparing answers: the refusal, the states.
+pub struct Prepared {
+    pub refusal: u64,
+    pub states: States,
+}
+
+// The states of a word under a key. Refusals 1 to 4.
+pub fn prepare(k: u64, m: u64, key: u64, word: u64) -> Prepared
+    ensures { λ r. ⌜ prepared r ≡ prepareOutcome k m key word ⌝ }
+{
+    let refusal = words::word_refusal(k, m, key, m, word);
+    if refusal != 0 {
+        return Prepared {
+            refusal,
+            states: States {
+                own: [0; 32],
+                marks: [0; 128],
+                next: [0; 128],
+                ban: [0; 128],
+            },
+        };
+    }
+    let a = special_alphabets(k, m, key, word);
+    let own = a.own;
+    let marks = a.marks;
+    let l = link_states(m, &own, &marks);
+    let next = l.next;
+    let ban = l.ban;
+    Prepared {
+        refusal: 0,
+        states: States {
+            own,
+            marks,
+            next,
+            ban,
+        },
+    }
+}

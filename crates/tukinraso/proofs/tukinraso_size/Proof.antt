@@ -1,0 +1,25 @@
+-- `tukinraso::tukinraso_size` meets its contract: what the size answers is coded as one number.
+-- Assumes nothing.
+use mathlib.Core.Path.{ap}
+use native.Mathlib.Omega.{arith}
+use borrow.Author.Needs.{needs}
+use Rattle.definitions.specs.Outcomes.{Counted, foreignSizeOutcome}
+use Rattle.laws.specs.Accepted.{size-refusal-most}
+use Rattle.tukinraso.proofs.tukinraso_size.Statement.{statement}
+use Rattle.tukinraso.proofs.tukinraso_size.Tie as tie
+
+size-requires : tie.Need-size-requires
+size-requires c κs = search needs
+
+coded-requires : tie.Need-coded-requires
+coded-requires c κs =
+    let a = c .before .args in
+    let o = c .size .ensures in
+    (omega (arith, ap (λ (x : Counted). x .refusal) o, size-refusal-most (a .k) (a .m) (a .key) (a .word)), omega arith)
+
+returns : tie.Need-returns
+unfolding foreignSizeOutcome
+returns c = rw (c .coded .ensures, ← c .before .size .ensures)
+
+pub tukinraso-size-spec : {M : Type 1} → statement M
+tukinraso-size-spec = tie.close (tie.spec size-requires coded-requires returns)

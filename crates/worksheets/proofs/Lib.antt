@@ -1,0 +1,12 @@
+-- Laws that several proofs cite, in the order in which one builds on another.
+--
+-- Laws          what is read out of the tables; sums over the letters
+-- Rows          entries that are written one after the other behind a place, and a row of ways
+-- Columns       a column that is counted row by row
+-- Sides         antemers and postmers as ways that a column counts
+-- Sizes         the size from the columns of a worksheet
+pub mod Laws
+pub mod Rows
+pub mod Columns
+pub mod Sides
+pub mod Sizes

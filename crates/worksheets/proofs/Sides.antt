@@ -1,0 +1,233 @@
+-- The two sides of a worksheet: the ways to complete a state to an antemer, and to a postmer, are counted as `column` counts, and what it counts
+-- are the columns of the worksheet.
+-- Assumes nothing.
+use Prim.Native.Nat.{ℕ, zero, suc, _+_, _-_, _*_, _^_, _≤_, _<_, min}
+use mathlib.Core.Bool.{Bool, true, false, cond, _&&_}
+use mathlib.Core.List.{List, [], _∷_, map}
+use mathlib.Core.Path.{_≡_, refl, sym, ap, ap₂, fun-ext, _∙_}
+use native.Mathlib.Nat.{add-zero}
+use native.Mathlib.Omega.{arith}
+use borrow.Author.Tests.{ltb-true, ltb-false, leb-true, eqb-true, lt-ltb, le-ltb, le-leb}
+use lib.Dec.{ltb, leb, eqb}
+use lib.ListN.{length, getD, List·getD-eq-default}
+use Rattle.definitions.specs.Lists.{tabulate, total}
+use Rattle.definitions.specs.Words.{Word, letters}
+use Rattle.definitions.specs.Shelves.{row, antemers, postmers, column}
+use Rattle.laws.specs.Tests.{and-l, and-r, and-i, test-ext, leb-cong}
+use Rattle.laws.specs.Filters.{tabulate-at, tabulate-agree}
+use Rattle.laws.specs.Walks.{ways-le}
+use Rattle.laws.specs.Orders.{Ranking, ranked}
+use Rattle.laws.specs.States.{matches, first, next, longest-matches, longest-le, next-le}
+use Rattle.laws.specs.Tables.{antemerOk, antemerEnd, antemerWays, postmerOk, postmerEnd, postmerWays, ways-free, antemers-table, postmers-table, postmer-end, antemer-stop}
+use Rattle.laws.specs.Bans.{never, ban, ban-le, lowBy, lasts, antemer-row, postmer-row, word-allowed}
+use Rattle.states.specs.Tables.{AlphabetsOf}
+use Rattle.worksheets.specs.Columns.{StatesOf, ReachIs, EndsAre, LastsIs, endWays, Counts}
+use Rattle.worksheets.proofs.Laws.{letters-agree, next-at, ban-at, own-later}
+
+-- the ways to complete a state below so many to an antemer by n letters; from the others there are none
+abbrev pub liveWays : Ranking → Word → ℕ → ℕ → ℕ → ℕ
+liveWays ρ w live i n = cond (ltb i live) (antemerWays ρ w i n) 0
+
+-- ---- rows
+
+-- a row whose count is behind a test
+row-behind : (s t : Bool) (f g : ℕ → ℕ) (a : ℕ) → g a ≡ cond t (f a) 0 → row (s && t) f a ≡ row s g a
+row-behind true true f g a e = sym e
+row-behind true false f g a e = sym e
+row-behind false t f g a e = refl
+
+-- the rows up to k − m
+row-test : (k m a : ℕ) → m ≤ k → leb a (k - m) ≡ leb (m + a) k
+row-test k m a h = leb-cong a (k - m) (m + a) k (λ q. omega arith) (λ q. omega arith)
+
+-- the rows up to some row, and below another
+row-last : (a x last : ℕ) → 0 < last → leb a (min x (last - 1)) ≡ (leb a x && ltb a last)
+row-last a x last h =
+    test-ext (leb a (min x (last - 1))) (leb a x && ltb a last)
+    (λ e. and-i (leb a x) (ltb a last) (le-leb a x (omega (arith, leb-true a (min x (last - 1)) e))) (lt-ltb a last (omega (arith, leb-true a (min x (last - 1)) e))))
+    (λ e. le-leb a (min x (last - 1)) (omega (arith, leb-true a x (and-l (leb a x) (ltb a last) e), ltb-true a last (and-r (leb a x) (ltb a last) e))))
+
+-- ---- states
+
+-- only w's own letter leads to the state above
+next-own : (w : Word) (i b : ℕ) → next w i b ≡ suc i → b ≡ getD w i 0
+next-own w i b e =
+    eqb-true b (getD w i 0)
+    (and-l (eqb b (getD w i 0)) (matches w i (first w i))
+    (ap (λ (l : ℕ). matches w l (b ∷ first w i)) (sym e) ∙ longest-matches w (length w) (b ∷ first w i)))
+
+module _ {ρ : Ranking} {w : Word} {live : ℕ} (c : ReachIs ρ w live) where
+  -- a letter that is allowed with w and more to follow leads below `live`, or to state m, which has no way on
+  stays : (i n b : ℕ) → i < live → length w < ban w (lowBy ρ w) i b → antemerWays ρ w (next w i b) n ≡ liveWays ρ w live (next w i b) n
+  stays i n b h k = below (ltb (next w i b) live) refl
+    where
+      full : live ≡ next w i b → (t : Bool) → ltb live (length w) ≡ t → antemerWays ρ w (next w i b) n ≡ 0
+      full e true q =
+          let back : live - 1 ≡ i = omega (arith, next-le w i b) in
+          let up : next w i b ≡ suc i = omega (arith, next-le w i b) in
+          let same-ban : ban w (lowBy ρ w) (live - 1) (getD w (live - 1) 0) ≡ ban w (lowBy ρ w) i b =
+          ap (λ (j : ℕ). ban w (lowBy ρ w) j (getD w j 0)) back ∙ ap (ban w (lowBy ρ w) i) (sym (next-own w i b up)) in
+          absurd (omega (arith, same-ban, c .stops (ltb-true live (length w) q)))
+      full e false q =
+          let at : next w i b ≡ length w = omega (arith, c .most, ltb-false live (length w) q) in
+          ap (λ (x : ℕ). antemerWays ρ w x n) at ∙ antemer-stop ρ w (omega (arith, c .some, c .most)) n
+
+      below : (t : Bool) → ltb (next w i b) live ≡ t → antemerWays ρ w (next w i b) n ≡ cond t (antemerWays ρ w (next w i b) n) 0
+      below true q = refl
+      below false q = full (omega (arith, next-le w i b, ltb-false (next w i b) live q)) (ltb live (length w)) refl
+
+  -- a row from the row before, by the bans and the ways below `live`
+  live-row : (i n : ℕ) → i < live → suc (n + length w) < never
+      → liveWays ρ w live i (suc n) ≡ total (map (λ b. cond (ltb (suc (n + length w)) (ban w (lowBy ρ w) i b)) (liveWays ρ w live (next w i b) n) 0) letters)
+  live-row i n h k =
+      ap (λ (t : Bool). cond t (antemerWays ρ w i (suc n)) 0) (lt-ltb i live h)
+      ∙ antemer-row ρ w i n (omega (arith, c .most)) k
+      ∙ letters-agree (λ b. cond (ltb left (ban w (lowBy ρ w) i b)) (antemerWays ρ w (next w i b) n) 0)
+      (λ b. cond (ltb left (ban w (lowBy ρ w) i b)) (liveWays ρ w live (next w i b) n) 0) (λ b p. each b (ltb left (ban w (lowBy ρ w) i b)) refl)
+    where
+      left : ℕ
+      left = suc (n + length w)
+
+      each : (b : ℕ) (t : Bool) → ltb left (ban w (lowBy ρ w) i b) ≡ t → cond t (antemerWays ρ w (next w i b) n) 0 ≡ cond t (liveWays ρ w live (next w i b) n) 0
+      each b true q = stays i n b h (omega (arith, ltb-true left (ban w (lowBy ρ w) i b) q))
+      each b false q = refl
+
+-- the ways from a state are at most all words
+live-small : (ρ : Ranking) (w : Word) (live i n : ℕ) → liveWays ρ w live i n ≤ 4 ^ n
+live-small ρ w live i n = go (ltb i live)
+  where
+    go : (t : Bool) → cond t (antemerWays ρ w i n) 0 ≤ 4 ^ n
+    go true = ways-le (antemerOk ρ w) (next w) (antemerEnd ρ w) i n
+    go false = omega arith
+
+-- the ends are the ways by no letter
+live-begins : (ρ : Ranking) (w : Word) (live i : ℕ) → i < live → endWays ρ w live i ≡ liveWays ρ w live i 0
+live-begins ρ w live i h =
+    ap (λ (t : Bool). cond (t && antemerEnd ρ w i) 1 0) (lt-ltb i live h) ∙ sym (ap (λ (t : Bool). cond t (antemerWays ρ w i 0) 0) (lt-ltb i live h))
+
+-- from `live` on there are none
+live-ends : (ρ : Ranking) (w : Word) (live p : ℕ) → live ≤ p → getD (tabulate (endWays ρ w live) 64) p 0 ≡ 0
+live-ends ρ w live p h = go (ltb p 64) refl
+  where
+    go : (t : Bool) → ltb p 64 ≡ t → getD (tabulate (endWays ρ w live) 64) p 0 ≡ 0
+    go true q =
+        tabulate-at (endWays ρ w live) 64 p 0 (ltb-true p 64 q) ∙ ap (λ (t : Bool). cond (t && antemerEnd ρ w p) 1 0) (le-ltb p live h)
+    go false q = List·getD-eq-default (tabulate (endWays ρ w live) 64) 0 (ltb-false p 64 q)
+
+-- ---- counting
+
+module _ {ρ : Ranking} {w : Word} {m : ℕ} {own marks nexts bans : List ℕ} (s : StatesOf ρ w m own marks nexts bans) where
+  -- there are 128 next states
+  long-next : length nexts ≡ 128
+  long-next = ap length (s .links .nexts)
+
+  -- and 128 bans
+  long-ban : length bans ≡ 128
+  long-ban = ap length (s .links .bans)
+
+  -- a next state is at most one more, and at most m
+  next-low : (i b : ℕ) → i ≤ m → b < 4 → (getD nexts (4 * i + b) 0 ≤ suc i) × (getD nexts (4 * i + b) 0 ≤ m)
+  next-low i b h k =
+      let e = next-at s i b h k in
+      (omega (arith, e, next-le w i b), omega (arith, e, s .alphabets .long, longest-le w (length w) (b ∷ first w i)))
+
+  -- a ban is at most never
+  ban-low : (i b : ℕ) → i ≤ m → b < 4 → getD bans (4 * i + b) 0 ≤ never
+  ban-low i b h k = rw (ban-at s i b h k) (ban-le w (lowBy ρ w) i b (omega (arith, s .alphabets .long, s .alphabets .few)))
+
+  -- a sum over the letters, by the tables
+  by-tables : (W : ℕ → ℕ → ℕ) (i n left left′ : ℕ) → i ≤ m → left ≡ left′
+      → total (map (λ b. cond (ltb left (ban w (lowBy ρ w) i b)) (W (next w i b) n) 0) letters)
+      ≡ total (map (λ b. cond (ltb left′ (getD bans (4 * i + b) 0)) (W (getD nexts (4 * i + b) 0) n) 0) letters)
+  by-tables W i n left left′ h e =
+      letters-agree (λ b. cond (ltb left (ban w (lowBy ρ w) i b)) (W (next w i b) n) 0) (λ b. cond (ltb left′ (getD bans (4 * i + b) 0)) (W (getD nexts (4 * i + b) 0) n) 0)
+      (λ b k. rw (ban-at s i b h k, next-at s i b h k, e))
+
+  -- the first letters of w are allowed in some row
+  first-some : (j : ℕ) → j ≤ m → 0 < lasts w (lowBy ρ w) j
+  first-some zero h = omega arith
+  first-some (suc j) h = omega (arith, first-some j (omega arith), own-later s j h, s .alphabets .long)
+
+  -- w is allowed in some row
+  pub lasts-some : {last : ℕ} → LastsIs ρ w last → 0 < last
+  lasts-some e = omega (arith, e, first-some (length w) (omega (arith, s .alphabets .long)))
+
+  module _ (k : ℕ) (h : m ≤ k) (f : k ≤ 31) where
+    -- the antemers are counted from state 0, with w to follow; from the states from `live` on there is no way
+    pub antemer-side : {live : ℕ} {ends : List ℕ} → ReachIs ρ w live → EndsAre ρ w live ends → Counts (liveWays ρ w live) m (k - m) 0 m live ends nexts bans
+    antemer-side {live} c e =
+        record {
+          some = a .some;
+          few = omega arith;
+          whole = omega arith;
+          within = c .some;
+          alive = omega (arith, low);
+          longFirst = ap length e;
+          longNext = long-next;
+          longBan = long-ban;
+          bans = λ i b q p. ban-low i b (omega (arith, low)) p;
+          leads = λ i b q p. next-low i b (omega (arith, low)) p;
+          begins =
+              λ i q. ap (λ (l : List ℕ). getD l i 0) e ∙ tabulate-at (endWays ρ w live) 64 i 0 (omega (arith, low)) ∙ live-begins ρ w live i q;
+          dead = λ i n p q. ap (λ (t : Bool). cond t (antemerWays ρ w i n) 0) (le-ltb i live p);
+          empty = λ p q l. ap (λ (x : List ℕ). getD x q 0) e ∙ live-ends ρ w live q l;
+          step =
+              λ i n p q. live-row c i n p (omega (arith, a .long))
+              ∙ by-tables (liveWays ρ w live) i n (suc (n + length w)) (suc n + m) (omega (arith, low)) (omega (arith, a .long));
+          free = λ i n p. absurd (omega arith);
+          small = live-small ρ w live;
+        }
+      where
+        a : AlphabetsOf ρ w m own marks
+        a = s .alphabets
+
+        low : live ≤ m
+        low = omega (arith, c .most, a .long)
+
+    -- the postmers are counted from state m, with nothing to follow, in the rows in which w is allowed
+    pub postmer-side : {last : ℕ} → LastsIs ρ w last
+        → Counts (postmerWays ρ w) m (min (k - m) (last - 1)) m 0 (suc m) (tabulate (λ i. 1) 64) nexts bans
+    postmer-side {last} e =
+        record {
+          some = a .some;
+          few = omega arith;
+          whole = omega arith;
+          within = omega arith;
+          alive = omega arith;
+          longFirst = refl;
+          longNext = long-next;
+          longBan = long-ban;
+          bans = λ i b q p. ban-low i b (omega arith) p;
+          leads = λ i b q p. next-low i b (omega arith) p;
+          begins = λ i q. tabulate-at (λ p. 1) 64 i 0 (omega arith) ∙ sym (ap (λ (t : Bool). cond t 1 0) (postmer-end ρ w (omega (arith, a .long, a .some)) i));
+          dead = λ i n p q. absurd (omega arith);
+          empty = λ p. absurd (omega arith);
+          step = λ i n p q. postmer-row ρ w i n (omega arith) ∙ by-tables (postmerWays ρ w) i n (suc n) (suc n + 0) (omega arith) (sym (add-zero (suc n)));
+          free = λ i n p. ways-free ρ w false [] (suc n) i (omega (arith, a .long));
+          small = ways-le (postmerOk ρ w) (next w) (postmerEnd ρ w);
+        }
+      where
+        a : AlphabetsOf ρ w m own marks
+        a = s .alphabets
+
+    -- the column of the antemers
+    pub antemer-column : {live : ℕ} {r : List ℕ} → ReachIs ρ w live → r ≡ tabulate (λ a. row (leb a (k - m)) (liveWays ρ w live 0) a) 31
+        → r ≡ column k m (antemers (ranked ρ) w)
+    antemer-column {live} c e = e ∙ tabulate-agree 31 (λ a p. ap₂ (λ (t : Bool) (g : ℕ → ℕ). row t g a) (row-test k m a h) all-live)
+      where
+        all-live : liveWays ρ w live 0 ≡ antemers (ranked ρ) w
+        all-live =
+            fun-ext (λ a. ap (λ (t : Bool). cond t (antemerWays ρ w 0 a) 0) (lt-ltb 0 live (c .some)) ∙ sym (antemers-table ρ (s .alphabets .one) w (s .alphabets .letters) a))
+
+    -- the column of the postmers
+    pub postmer-column : {last : ℕ} {r : List ℕ} → LastsIs ρ w last → r ≡ tabulate (λ a. row (leb a (min (k - m) (last - 1))) (postmerWays ρ w m) a) 31
+        → r ≡ column k m (postmers (ranked ρ) w)
+    postmer-column {last} q e = e ∙ tabulate-agree 31 each
+      where
+        each : (a : ℕ) → a < 31 → row (leb a (min (k - m) (last - 1))) (postmerWays ρ w m) a ≡ row (leb (m + a) k) (postmers (ranked ρ) w) a
+        each a p =
+            ap (λ (t : Bool). row t (postmerWays ρ w m) a) (row-last a (k - m) last (lasts-some q))
+            ∙ row-behind (leb a (k - m)) (ltb a last) (postmerWays ρ w m) (postmers (ranked ρ) w) a
+            (postmers-table ρ (s .alphabets .one) w (s .alphabets .letters) (omega (arith, s .alphabets .long, s .alphabets .some)) a
+            ∙ ap₂ (λ (t : Bool) (i : ℕ). cond t (postmerWays ρ w i a) 0) (word-allowed ρ w a (omega (arith, s .alphabets .long)) ∙ ap (ltb a) (sym q)) (s .alphabets .long))
+            ∙ ap (λ (t : Bool). row t (postmers (ranked ρ) w) a) (row-test k m a h)

@@ -1,0 +1,157 @@
+-- `worksheets::caught` meets its contract. The loop's invariant: the thread is caught in w exactly if, with the first j letters of w tied too,
+-- it is caught in the rest of w. The measure is how many letters of the thread are left.
+-- Assumes nothing.
+use Prim.Native.Nat.{ℕ, suc, _+_, _-_, _*_, _≤_, _<_}
+use mathlib.Core.Bool.{Bool, true, false, cond, _&&_, _||_}
+use mathlib.Core.List.{List}
+use mathlib.Core.Path.{_≡_, refl, sym, ap, ap₂, _∙_}
+use native.Mathlib.Nat.{add-zero}
+use native.Mathlib.Numerals.{add-one}
+use native.Mathlib.Omega.{arith}
+use borrow.Author.Needs.{needs}
+use borrow.Author.Tests.{eqb-true, eqb-false, le-leb, eq-eqb, ne-eqb}
+use lib.Dec.{ltb, eqb}
+use lib.ListN.{length, getD, drop, length-drop}
+use lib.Seq.{drop-cons, drop-length}
+use Rattle.definitions.specs.Words.{Word}
+use Rattle.laws.specs.Numbers.{letter-lt}
+use Rattle.laws.specs.Orders.{Ranking}
+use Rattle.laws.specs.Threads.{caught}
+use Rattle.laws.specs.Acceptors.{belowHit}
+use Rattle.states.specs.Tables.{AlphabetsOf}
+use Rattle.worksheets.specs.Columns.{All}
+use Rattle.worksheets.proofs.Laws.{own-at, own-lt, mark-at}
+use Rattle.worksheets.proofs.caught.Statement.{statement}
+use Rattle.worksheets.proofs.caught.Tie as tie
+
+-- a thread tied with l letters, of which the latest j are w's first ones, is caught in the rest of w
+abbrev tiedTo : Ranking → Word → ℕ → ℕ → Bool
+tiedTo ρ w l j = caught w (belowHit ρ w) true l (drop l w) (drop j w)
+
+module _ {ρ : Ranking} {w : Word} {m : ℕ} {own marks : List ℕ} (a : AlphabetsOf ρ w m own marks) (i j : ℕ) (h : i + j < m) where
+  -- one letter more: it ranks below w's letter, or is that letter and the thread is caught further on
+  letter-read : tiedTo ρ w (i + j) j ≡ (ltb (ρ (i + j) (getD w j 0)) (ρ (i + j) (getD w (i + j) 0)) || (eqb (getD w j 0) (getD w (i + j) 0) && tiedTo ρ w (suc (i + j)) (suc j)))
+  letter-read =
+      ap₂ (λ (u z : Word). caught w (belowHit ρ w) true (i + j) u z) (drop-cons w (i + j) 0 (omega (arith, a .long))) (drop-cons w j 0 (omega (arith, a .long)))
+      ∙ ap (λ (t : Bool). t && ltb (ρ (i + j) (getD w j 0)) (ρ (i + j) (getD w (i + j) 0)) || (eqb (getD w j 0) (getD w (i + j) 0) && tiedTo ρ w (suc (i + j)) (suc j)))
+      (le-leb (length w) (i + j + suc (length (drop (suc j) w))) (omega (arith, length-drop (suc j) w, a .long)))
+
+  -- so the letter's mark decides, or the rest does
+  mark-tells : tiedTo ρ w (i + j) j ≡ cond (eqb (getD marks (4 * (i + j) + getD own j 0) 0) 1) (tiedTo ρ w (suc (i + j)) (suc j)) (eqb (getD marks (4 * (i + j) + getD own j 0) 0) 0)
+  mark-tells =
+      letter-read ∙ go (ltb (ρ (i + j) (getD w j 0)) (ρ (i + j) (getD w (i + j) 0))) refl (eqb (ρ (i + j) (getD w j 0)) (ρ (i + j) (getD w (i + j) 0))) refl
+      ∙ sym (ap (λ (k : ℕ). cond (eqb k 1) (tiedTo ρ w (suc (i + j)) (suc j)) (eqb k 0))
+      (ap (λ (b : ℕ). getD marks (4 * (i + j) + b) 0) (own-at a j (omega (arith, a .few))) ∙ mark-at a (i + j) (getD w j 0) h (letter-lt w j (a .letters))))
+    where
+      go : (s : Bool) → ltb (ρ (i + j) (getD w j 0)) (ρ (i + j) (getD w (i + j) 0)) ≡ s → (t : Bool) → eqb (ρ (i + j) (getD w j 0)) (ρ (i + j) (getD w (i + j) 0)) ≡ t
+          → (s || (eqb (getD w j 0) (getD w (i + j) 0) && tiedTo ρ w (suc (i + j)) (suc j)))
+          ≡ cond (eqb (cond s 0 (cond t 1 2)) 1) (tiedTo ρ w (suc (i + j)) (suc j)) (eqb (cond s 0 (cond t 1 2)) 0)
+      go true p t q = refl
+      go false p true q =
+          ap (λ (x : Bool). x && tiedTo ρ w (suc (i + j)) (suc j))
+          (eq-eqb (getD w j 0) (getD w (i + j) 0)
+          (a .one .apart (i + j) (getD w j 0) (getD w (i + j) 0) (letter-lt w j (a .letters)) (letter-lt w (i + j) (a .letters))
+          (eqb-true (ρ (i + j) (getD w j 0)) (ρ (i + j) (getD w (i + j) 0)) q)))
+      go false p false q =
+          ap (λ (x : Bool). x && tiedTo ρ w (suc (i + j)) (suc j))
+          (ne-eqb (getD w j 0) (getD w (i + j) 0) (λ e. eqb-false (ρ (i + j) (getD w j 0)) (ρ (i + j) (getD w (i + j) 0)) q (ap (ρ (i + j)) e)))
+
+-- at the end of w all is tied
+all-tied : (ρ : Ranking) (w : Word) (l j : ℕ) → l ≡ length w → tiedTo ρ w l j ≡ true
+all-tied ρ w l j e = ap (λ (u : Word). caught w (belowHit ρ w) true l u (drop j w)) (ap (λ (n : ℕ). drop n w) e ∙ drop-length w)
+
+abbrev Inv-loop : tie.InvT-loop
+Inv-loop m i own marks j₀ j = (i + j ≤ m) × All (λ ρ w. AlphabetsOf ρ w m own marks) (λ ρ w. tiedTo ρ w i 0 ≡ tiedTo ρ w (i + j) j)
+
+abbrev μ-loop : tie.MeasureT-loop
+μ-loop m i own marks j₀ j = m - (i + j)
+
+loop-holds : tie.Need-loop-holds Inv-loop μ-loop
+loop-holds c =
+    let i = c .args .i in
+    (rw add-zero (c .pre .1), λ ρ w a. ap (λ (l : ℕ). tiedTo ρ w l 0) (sym (add-zero i)))
+
+add-loop : tie.Need-add-loop Inv-loop μ-loop
+add-loop c = omega (arith, c .before .pre .0 .2 .few)
+
+element-copy-out-letter : tie.Need-element-copy-out-letter Inv-loop μ-loop
+element-copy-out-letter c = omega (arith, c .before .before .pre .0 .2 .few)
+
+cast-letter : tie.Need-cast-letter Inv-loop μ-loop
+cast-letter c =
+    let a = c .before .before .before .pre .0 .2 in
+    omega (arith, own-lt a (c .before .before .loop .j) (omega (arith, a .few)))
+
+add-mark : tie.Need-add-mark Inv-loop μ-loop
+add-mark c = omega (arith, c .before .before .before .pre .0 .2 .few)
+
+mul-mark : tie.Need-mul-mark Inv-loop μ-loop
+mul-mark c = omega (arith, c .before .before .before .pre .0 .2 .few)
+
+add-mark-2 : tie.Need-add-mark-2 Inv-loop μ-loop
+add-mark-2 c =
+    let a = c .before .before .before .pre .0 .2 in
+    omega (arith, a .few, own-lt a (c .before .before .loop .j) (omega (arith, a .few)))
+
+element-copy-out-mark : tie.Need-element-copy-out-mark Inv-loop μ-loop
+element-copy-out-mark c =
+    let a = c .before .before .before .pre .0 .2 in
+    omega (arith, a .few, own-lt a (c .before .before .loop .j) (omega (arith, a .few)))
+
+returns : tie.Need-returns Inv-loop μ-loop
+returns c =
+    let at = c .before .before .before .before .loop in
+    let start = c .before .before .before .before .before in
+    λ ρ w a.
+    let i = start .args .i in
+    let mark = getD (start .args .marks .now) (4 * (i + at .j) + getD (start .args .own .now) (at .j) 0) 0 in
+    sym (at .inv .1 ρ w a
+    ∙ mark-tells a i (at .j) (c .before .before .before .loop-test .taken)
+    ∙ ap (λ (t : Bool). cond t (tiedTo ρ w (suc (i + at .j)) (suc (at .j))) (eqb mark 0)) (ne-eqb mark 1 (c .if1 .taken)))
+
+add-j : tie.Need-add-j Inv-loop μ-loop
+add-j c = omega (arith, c .before .before .before .before .before .pre .0 .2 .few)
+
+loop-less : tie.Need-loop-less Inv-loop μ-loop
+loop-less c = search needs
+
+loop-again : tie.Need-loop-again Inv-loop μ-loop
+loop-again c =
+    let at = c .before .before .before .before .loop in
+    let start = c .before .before .before .before .before in
+    let i = start .args .i in
+    let mark = getD (start .args .marks .now) (4 * (i + at .j) + getD (start .args .own .now) (at .j) 0) 0 in
+    let on : suc (i + at .j) ≡ i + (at .j + 1) = omega arith in (
+      omega arith,
+      λ ρ w a.
+          at .inv .1 ρ w a
+          ∙ mark-tells a i (at .j) (c .before .before .before .loop-test .taken)
+          ∙ ap (λ (t : Bool). cond t (tiedTo ρ w (suc (i + at .j)) (suc (at .j))) (eqb mark 0)) (eq-eqb mark 1 (c .if1 .left))
+          ∙ ap₂ (λ (l j : ℕ). tiedTo ρ w l j) on (sym (add-one (at .j))),
+    )
+
+returns-2 : tie.Need-returns-2 Inv-loop μ-loop
+returns-2 c =
+    let at = c .before .loop in
+    let i = c .before .before .args .i in
+    λ ρ w a. sym (at .inv .1 ρ w a ∙ all-tied ρ w (i + at .j) (at .j) (omega (arith, a .long)))
+
+pub caught-spec : {M : Type 1} → statement M
+caught-spec =
+    tie.close
+    (tie.spec
+    Inv-loop
+    μ-loop
+    loop-holds
+    add-loop
+    element-copy-out-letter
+    cast-letter
+    add-mark
+    mul-mark
+    add-mark-2
+    element-copy-out-mark
+    returns
+    add-j
+    loop-less
+    loop-again
+    returns-2)

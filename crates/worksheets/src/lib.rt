@@ -1,0 +1,305 @@
+// Worksheets: the antemers and postmers behind the size of a shelf, counted by states, and the size. Assumes nothing.
+//
+// Antemers and postmers are counted alike: the ways to complete a state by r letters are the sum, over the letters that are not banned there, of
+// the ways to complete the next state by one letter less. Document 01's counts by shared prefix come back so: the words that share i letters
+// with w are those that reach state i, and its "antemers T−1 shorter that share at least i−T+2 letters" are the ways from the next state. After an
+// antemer stands w, so every m-mer that begins in it exists, and state m has no way on: w would stand there too soon. After a postmer
+// stands nothing, so only an m-mer for which letters are left exists, and where none can exist any more the ways are a power of four.
+ghost use mathlib.Core.Path.{_≡_};
+ghost use Prim.Native.Nat.{suc, _-_, _^_, _≤_, _<_};
+ghost use Rattle.definitions.specs.Outcomes.{worksheetOutcome, sizeOutcome};
+ghost use Rattle.states.specs.Tables.{AlphabetsOf};
+ghost use Rattle.worksheets.specs.Columns.{Known, All, StatesOf, CaughtIs, EndIs, EndsAre, ReachIs, LastsIs, wayOf, sumOf, WayReady, RowReady, FreeReady, Written, Countable, CountedBy, SheetIs, productSum};
+ghost use Rattle.worksheets.specs.Answers.{worked, counted};
+
+// How a letter is marked in the special alphabets.
+const BELOW: u8 = 0;
+
+const EQUAL: u8 = 1;
+
+// Above every row of a worksheet.
+const NEVER: u64 = 64;
+
+// Whether the m-mer that has the first i letters of w and then w's first letters again comes out below w, or is w.
+fn caught(m: u64, i: u64, own: &[u8; 32], marks: &[u8; 128]) -> bool
+    requires { ⌜ Known (λ ρ w. AlphabetsOf ρ w m (now own) (now marks)) ⌝ }
+    requires { ⌜ i ≤ m ⌝ }
+    ensures { λ r. ⌜ All (λ ρ w. AlphabetsOf ρ w m (now (own .entry)) (now (marks .entry))) (λ ρ w. CaughtIs ρ w i r) ⌝ }
+{
+    let mut j: u64 = 0;
+    while i + j < m {
+        let letter = own[j as usize] as u64;
+        let mark = marks[(4 * (i + j) + letter) as usize];
+        if mark != EQUAL {
+            return mark == BELOW;
+        }
+        j += 1;
+    }
+    true
+}
+
+// The ways to end an antemer at state i, 1 or 0, by those at the state that i falls to.
+fn end_at(fallen: u64, m: u64, i: u64, own: &[u8; 32], marks: &[u8; 128]) -> u64
+    requires { ⌜ Known (λ ρ w. AlphabetsOf ρ w m (now own) (now marks)) ⌝ }
+    requires { ⌜ i ≤ m ⌝ }
+    ensures { λ r. ⌜ All (λ ρ w. AlphabetsOf ρ w m (now (own .entry)) (now (marks .entry))) (λ ρ w. EndIs ρ w i fallen r) ⌝ }
+{
+    if fallen == 0 {
+        return 0;
+    }
+    if caught(m, i, own, marks) {
+        return 0;
+    }
+    1
+}
+
+// Below which state antemers stay: w's own letters lead from state to state until one of them is banned, or up to w itself.
+fn reach(m: u64, own: &[u8; 32], marks: &[u8; 128], next: &[u8; 128], ban: &[u8; 128]) -> u64
+    requires { ⌜ Known (λ ρ w. StatesOf ρ w m (now own) (now marks) (now next) (now ban)) ⌝ }
+    ensures { λ r. ⌜ All (λ ρ w. StatesOf ρ w m (now (own .entry)) (now (marks .entry)) (now (next .entry)) (now (ban .entry))) (λ ρ w. ReachIs ρ w r) ⌝ }
+{
+    let mut i: u64 = 0;
+    while i + 1 < m {
+        let letter = own[i as usize] as u64;
+        if (ban[(4 * i + letter) as usize] as u64) < NEVER {
+            return i + 1;
+        }
+        i += 1;
+    }
+    m
+}
+
+// For each state below `live` the ways to end an antemer there, 1 or 0; the others have none.
+fn ends(
+    m: u64,
+    live: u64,
+    own: &[u8; 32],
+    marks: &[u8; 128],
+    next: &[u8; 128],
+    ban: &[u8; 128],
+) -> [u64; 64]
+    requires { ⌜ Known (λ ρ w. StatesOf ρ w m (now own) (now marks) (now next) (now ban)) ⌝ }
+    requires { ⌜ (0 < live) × (live ≤ m) ⌝ }
+    ensures { λ r. ⌜ All (λ ρ w. StatesOf ρ w m (now (own .entry)) (now (marks .entry)) (now (next .entry)) (now (ban .entry))) (λ ρ w. EndsAre ρ w live r) ⌝ }
+{
+    let mut ends: [u64; 64] = [0; 64];
+    ends[0] = 1;
+    let mut fall: u64 = 0;
+    let mut i: u64 = 1;
+    while i < live {
+        ends[i as usize] = end_at(ends[fall as usize], m, i, own, marks);
+        let letter = own[i as usize] as u64;
+        fall = next[(4 * fall + letter) as usize] as u64;
+        i += 1;
+    }
+    ends
+}
+
+// In how many rows the postmers begin with w at all: w's own letters are not banned in it while so few letters follow.
+fn lasts(m: u64, own: &[u8; 32], marks: &[u8; 128], next: &[u8; 128], ban: &[u8; 128]) -> u64
+    requires { ⌜ Known (λ ρ w. StatesOf ρ w m (now own) (now marks) (now next) (now ban)) ⌝ }
+    ensures { λ r. ⌜ All (λ ρ w. StatesOf ρ w m (now (own .entry)) (now (marks .entry)) (now (next .entry)) (now (ban .entry))) (λ ρ w. LastsIs ρ w r) ⌝ }
+{
+    let mut rows: u64 = NEVER;
+    let mut j: u64 = 0;
+    while j < m {
+        let letter = own[j as usize] as u64;
+        let left = ban[(4 * j + letter) as usize] as u64;
+        rows = words::lesser(rows, left + j - m);
+        j += 1;
+    }
+    rows
+}
+
+// The ways on by one letter: those from the state that it leads to, or none where it is banned with so many letters left.
+fn way(c: usize, left: u64, from: u64, next: &[u8; 128], ban: &[u8; 128], ways: &[u64; 64]) -> u64
+    requires { ⌜ WayReady c from (now next) (now ban) (now ways) ⌝ }
+    ensures { λ r. ⌜ r ≡ wayOf c left from (now (next .entry)) (now (ban .entry)) (now (ways .entry)) ⌝ }
+{
+    let there = ways[(from + next[c] as u64) as usize];
+    if left < ban[c] as u64 {
+        return there;
+    }
+    0
+}
+
+// Writes, for the states from `lo` to below `hi`, the ways to complete each by one letter more than stood there. State i with r letters stands
+// at place r + i, where state i + 1 stood with one letter less: from the highest state down, nothing is lost that is still wanted.
+fn ways_row(
+    lo: u64,
+    hi: u64,
+    done: u64,
+    left: u64,
+    next: &[u8; 128],
+    ban: &[u8; 128],
+    ways: &mut [u64; 64],
+)
+    requires { ⌜ RowReady lo hi done left (now next) (now ban) (now ways) ⌝ }
+    ensures { λ _. ⌜ Written lo hi (suc done) (λ i. sumOf i left done (now (next .entry)) (now (ban .entry)) (now (ways .entry))) (now (ways .entry)) (now (ways .exit)) ⌝ }
+{
+    let to = done + 1;
+    let mut i = hi;
+    while lo < i {
+        i -= 1;
+        let c = (4 * i) as usize;
+        let a_way = way(c, left, done, next, ban, ways);
+        let c_way = way(c + 1, left, done, next, ban, ways);
+        let g_way = way(c + 2, left, done, next, ban, ways);
+        let t_way = way(c + 3, left, done, next, ban, ways);
+        ways[(to + i) as usize] = a_way + c_way + g_way + t_way;
+    }
+}
+
+// Writes 4^r for the states below `free`: from these no m-mer can exist any more.
+fn free_row(free: u64, r: u64, ways: &mut [u64; 64])
+    requires { ⌜ FreeReady free r (now ways) ⌝ }
+    ensures { λ _. ⌜ Written 0 free r (λ i. 4 ^ r) (now (ways .entry)) (now (ways .exit)) ⌝ }
+{
+    if free == 0 {
+        return;
+    }
+    let power = words::power(r);
+    let mut i: u64 = 0;
+    while i < free {
+        ways[(r + i) as usize] = power;
+        i += 1;
+    }
+}
+
+// What is counted: the state whose ways the rows hold, how many letters follow the words that are counted, and below which state there are ways.
+struct Side {
+    start: u64,
+    follow: u64,
+    live: u64,
+}
+
+// The column of a side, from the ways to complete each state by no letter: row r, up to the last of so many, holds the ways to complete the
+// start by r letters. A state that no start reaches with the letters that are left is passed over.
+fn column(
+    m: u64,
+    rows: u64,
+    side: Side,
+    first: [u64; 64],
+    next: &[u8; 128],
+    ban: &[u8; 128],
+) -> [u64; 31]
+    requires { ⌜ Countable m rows (side .start) (side .follow) (side .live) first (now next) (now ban) ⌝ }
+    ensures { λ r. ⌜ CountedBy m rows (side .start) (side .follow) (side .live) first (now (next .entry)) (now (ban .entry)) r ⌝ }
+{
+    let start = side.start;
+    let mut ways = first;
+    let mut column: [u64; 31] = [0; 31];
+    column[0] = ways[start as usize];
+    let mut done: u64 = 0;
+    while done < rows {
+        let r = done + 1;
+        let left = r + side.follow;
+        let free = m - words::lesser(m, left);
+        let needed = words::lesser(side.live, start + rows + 1 - r);
+        ways_row(free, needed, done, left, next, ban, &mut ways);
+        free_row(free, r, &mut ways);
+        column[r as usize] = ways[(r + start) as usize];
+        done = r;
+    }
+    column
+}
+
+// The two columns of a worksheet.
+pub struct Sheet {
+    pub antemers: [u64; 31],
+    pub postmers: [u64; 31],
+}
+
+// The worksheet of a word of m letters, from its states.
+fn sheet_of(k: u64, m: u64, s: states::States) -> Sheet
+    requires { ⌜ Known (λ ρ w. StatesOf ρ w m (s .own) (s .marks) (s .next) (s .ban)) ⌝ }
+    requires { ⌜ (m ≤ k) × (k ≤ 31) ⌝ }
+    ensures { λ r. ⌜ All (λ ρ w. StatesOf ρ w m (s .own) (s .marks) (s .next) (s .ban)) (λ ρ w. SheetIs ρ w k m (r .antemers) (r .postmers)) ⌝ }
+{
+    let own = s.own;
+    let marks = s.marks;
+    let next = s.next;
+    let ban = s.ban;
+    let rows = k - m;
+    let live = reach(m, &own, &marks, &next, &ban);
+    let last = lasts(m, &own, &marks, &next, &ban);
+    let before = Side {
+        start: 0,
+        follow: m,
+        live,
+    };
+    let after = Side {
+        start: m,
+        follow: 0,
+        live: m + 1,
+    };
+    let first = ends(m, live, &own, &marks, &next, &ban);
+    let antemers = column(m, rows, before, first, &next, &ban);
+    let begun = words::lesser(rows, last - 1);
+    let postmers = column(m, begun, after, [1; 64], &next, &ban);
+    Sheet { antemers, postmers }
+}
+
+// What the worksheet answers: the refusal, the two columns.
+pub struct Worked {
+    pub refusal: u64,
+    pub sheet: Sheet,
+}
+
+// The worksheet of a word: row a holds the number of antemers of length a, and of postmers of length m + a that begin with the word; rows above
+// k - m hold 0 twice. Refusals 1 to 4.
+pub fn worksheet(k: u64, m: u64, key: u64, word: u64) -> Worked
+    ensures { λ r. ⌜ worked r ≡ worksheetOutcome k m key word ⌝ }
+{
+    let prepared = states::prepare(k, m, key, word);
+    if prepared.refusal != 0 {
+        return Worked {
+            refusal: prepared.refusal,
+            sheet: Sheet {
+                antemers: [0; 31],
+                postmers: [0; 31],
+            },
+        };
+    }
+    let sheet = sheet_of(k, m, prepared.states);
+    Worked { refusal: 0, sheet }
+}
+
+// The sum over a of the antemers in row n - a times the postmers in row a.
+fn products(n: u64, sheet: Sheet) -> u64
+    requires { ⌜ (n ≤ 30) × (productSum n (sheet .antemers) (sheet .postmers) (suc n) ≤ 4 ^ 31) ⌝ }
+    ensures { λ r. ⌜ r ≡ productSum n (sheet .antemers) (sheet .postmers) (suc n) ⌝ }
+{
+    let mut sum: u64 = 0;
+    let mut a: u64 = 0;
+    while a <= n {
+        let before = n - a;
+        let product = sheet.antemers[before as usize] * sheet.postmers[a as usize];
+        sum += product;
+        a += 1;
+    }
+    sum
+}
+
+// What the size answers: the refusal, the number of k-mers.
+pub struct Counted {
+    pub refusal: u64,
+    pub count: u64,
+}
+
+// The size of a shelf. Refusals 1 to 4.
+pub fn size(k: u64, m: u64, key: u64, word: u64) -> Counted
+    ensures { λ r. ⌜ counted r ≡ sizeOutcome k m key word ⌝ }
+{
+    let worked = worksheet(k, m, key, word);
+    if worked.refusal != 0 {
+        return Counted {
+            refusal: worked.refusal,
+            count: 0,
+        };
+    }
+    Counted {
+        refusal: 0,
+        count: products(k - m, worked.sheet),
+    }
+}
