@@ -4,7 +4,7 @@ ghost use mathlib.Core.List.{[], _∷_, _++_};
 ghost use Prim.Native.Nat.{_^_, _<_, min};
 ghost use lib.Dec.{leb};
 ghost use lib.ListN.{getD};
-ghost use Rattle.definitions.specs.Lists.{all, over};
+ghost use Rattle.definitions.specs.Lists.{all, over, tabulate};
 ghost use Rattle.definitions.specs.Words.{val, isLetter, spelled, capitals, word as wordOf, text as written};
 ghost use Rattle.definitions.specs.Refusals.{refusal, badKey, badWord, firstBad};
 ghost use Rattle.definitions.specs.Outcomes.{orderGrounds, packOutcome, unpackOutcome};
@@ -49,6 +49,13 @@ const POWERS: [u64; 32] = [
     4611686018427387904,
 ];
 
+// The table: 4^n at place n.
+pub fn powers() -> [u64; 32]
+    ensures { λ r. ⌜ r ≡ tabulate (λ n. 4 ^ n) 32 ⌝ }
+{
+    POWERS
+}
+
 // 4^n; 0 where n is above 31, since 4^32 takes more than 64 bits.
 pub fn power(n: u64) -> u64
     ensures { λ r. ⌜ r ≡ powerOutcome n ⌝ }
@@ -56,7 +63,8 @@ pub fn power(n: u64) -> u64
     if 31 < n {
         return 0;
     }
-    POWERS[n as usize]
+    let table = powers();
+    table[n as usize]
 }
 
 // The lesser of two numbers.

@@ -48,40 +48,36 @@ module _ {to : ℕ} {new : ℕ → ℕ} where
         }
 
 -- a row of ways, of which the states from `lo` on are written
-module _ {lo hi done left : ℕ} {next ban old : List ℕ} (q : RowReady lo hi done left next ban old) where
+module _ {lo hi done : ℕ} {allowed old : List ℕ} (q : RowReady lo hi done allowed old) where
   -- the ways on from a state, by what is there at first
   abbrev pub sums : ℕ → ℕ
-  sums i = sumOf i left done next ban old
+  sums i = sumOf i done allowed old
 
   module _ {i : ℕ} {ways : List ℕ} (s : Written (suc i) hi (suc done) sums old ways) (h : lo ≤ i) (k : i < hi) where
     -- a way can be read
-    pub way-ready : (b : ℕ) → b < 4 → WayReady (4 * i + b) done next ban ways
+    pub way-ready : (b : ℕ) → b < 4 → WayReady (4 * i + b) done allowed ways
     way-ready b f =
         record {
-          longNext = q .longNext;
-          longBan = q .longBan;
+          longAllowed = q .longAllowed;
           longWays = s .long ∙ q .longWays;
           inside = omega (arith, q .high);
-          leads = omega (arith, q .leads i b k f, q .high, q .short);
-          short = q .bans i b k f;
+          leads = ⊎-elim (λ l. omega (arith, q .high)) (λ l. omega (arith, q .high)) (q .leads i b k f);
         }
 
     -- it is what it was at first
-    way-kept : (b : ℕ) → b < 4 → wayOf (4 * i + b) left done next ban ways ≡ wayOf (4 * i + b) left done next ban old
+    way-kept : (b : ℕ) → b < 4 → wayOf (4 * i + b) done allowed ways ≡ wayOf (4 * i + b) done allowed old
     way-kept b f =
-        ap (λ (v : ℕ). cond (ltb left (getD ban (4 * i + b) 0)) v 0)
-        (s .outside (done + getD next (4 * i + b) 0) (inl (omega (arith, q .leads i b k f))))
+        s .outside (done + getD allowed (4 * i + b) 0) (⊎-elim (λ l. inl (omega arith)) (λ l. inr (omega (arith, q .high))) (q .leads i b k f))
 
     -- the four ways on from a state, and that their sum is small
-    pub four-ways : {a c g t : ℕ} → a ≡ wayOf (4 * i) left done next ban ways → c ≡ wayOf (4 * i + 1) left done next ban ways
-        → g ≡ wayOf (4 * i + 2) left done next ban ways → t ≡ wayOf (4 * i + 3) left done next ban ways
-        → (a + c + g + t ≡ sums i) × (a + c + g + t ≤ 4 ^ 31)
+    pub four-ways : {a c g t : ℕ} → a ≡ wayOf (4 * i) done allowed ways → c ≡ wayOf (4 * i + 1) done allowed ways
+        → g ≡ wayOf (4 * i + 2) done allowed ways → t ≡ wayOf (4 * i + 3) done allowed ways → (a + c + g + t ≡ sums i) × (a + c + g + t ≤ 4 ^ 31)
     four-ways {a} {c} {g} {t} ea ec eg et =
-        let first : wayOf (4 * i) left done next ban ways ≡ wayOf (4 * i + 0) left done next ban ways =
-        ap (λ (p : ℕ). wayOf p left done next ban ways) (let z : 4 * i ≡ 4 * i + 0 = omega arith in z) in
-        let a-is : a ≡ wayOf (4 * i + 0) left done next ban old = ea ∙ first ∙ way-kept 0 (omega arith) in
-        let c-is : c ≡ wayOf (4 * i + 1) left done next ban old = ec ∙ way-kept 1 (omega arith) in
-        let g-is : g ≡ wayOf (4 * i + 2) left done next ban old = eg ∙ way-kept 2 (omega arith) in
-        let t-is : t ≡ wayOf (4 * i + 3) left done next ban old = et ∙ way-kept 3 (omega arith) in
-        let small : (b : ℕ) → b < 4 → wayOf (4 * i + b) left done next ban old ≤ 4 ^ 30 = λ b f. q .small i b h k f in
+        let first : wayOf (4 * i) done allowed ways ≡ wayOf (4 * i + 0) done allowed ways =
+        ap (λ (p : ℕ). wayOf p done allowed ways) (let z : 4 * i ≡ 4 * i + 0 = omega arith in z) in
+        let a-is : a ≡ wayOf (4 * i + 0) done allowed old = ea ∙ first ∙ way-kept 0 (omega arith) in
+        let c-is : c ≡ wayOf (4 * i + 1) done allowed old = ec ∙ way-kept 1 (omega arith) in
+        let g-is : g ≡ wayOf (4 * i + 2) done allowed old = eg ∙ way-kept 2 (omega arith) in
+        let t-is : t ≡ wayOf (4 * i + 3) done allowed old = et ∙ way-kept 3 (omega arith) in
+        let small : (b : ℕ) → b < 4 → wayOf (4 * i + b) done allowed old ≤ 4 ^ 30 = λ b f. q .small i b h k f in
         (omega arith, omega (arith, small 0 (omega arith), small 1 (omega arith), small 2 (omega arith), small 3 (omega arith)))

@@ -4,8 +4,9 @@
 use Prim.Native.Nat.{ℕ, zero, suc, _+_, _-_, _*_, _^_, _≤_, _<_, min}
 use mathlib.Core.Bool.{Bool, true, false, cond, _&&_}
 use mathlib.Core.List.{List, [], _∷_, map}
+use mathlib.Core.Logic.{_⊎_, inl, inr}
 use mathlib.Core.Path.{_≡_, refl, sym, ap, ap₂, fun-ext, _∙_}
-use native.Mathlib.Nat.{add-zero}
+use native.Mathlib.Nat.{zero-add, add-zero}
 use native.Mathlib.Omega.{arith}
 use borrow.Author.Tests.{ltb-true, ltb-false, leb-true, eqb-true, lt-ltb, le-ltb, le-leb}
 use lib.Dec.{ltb, leb, eqb}
@@ -14,14 +15,14 @@ use Rattle.definitions.specs.Lists.{tabulate, total}
 use Rattle.definitions.specs.Words.{Word, letters}
 use Rattle.definitions.specs.Shelves.{row, antemers, postmers, column}
 use Rattle.laws.specs.Tests.{and-l, and-r, and-i, test-ext, leb-cong}
-use Rattle.laws.specs.Filters.{tabulate-at, tabulate-agree}
+use Rattle.laws.specs.Filters.{length-tabulate, tabulate-at, tabulate-agree}
 use Rattle.laws.specs.Walks.{ways-le}
 use Rattle.laws.specs.Orders.{Ranking, ranked}
 use Rattle.laws.specs.States.{matches, first, next, longest-matches, longest-le, next-le}
 use Rattle.laws.specs.Tables.{antemerOk, antemerEnd, antemerWays, postmerOk, postmerEnd, postmerWays, ways-free, antemers-table, postmers-table, postmer-end, antemer-stop}
-use Rattle.laws.specs.Bans.{never, ban, ban-le, lowBy, lasts, antemer-row, postmer-row, word-allowed}
+use Rattle.laws.specs.Bans.{never, ban, ban-le, ban-most, lowBy, lasts, antemer-row, postmer-row, word-allowed}
 use Rattle.states.specs.Tables.{AlphabetsOf}
-use Rattle.worksheets.specs.Columns.{StatesOf, ReachIs, EndsAre, LastsIs, endWays, Counts}
+use Rattle.worksheets.specs.Columns.{StatesOf, ReachIs, EndsAre, LastsIs, endWays, Written, Counts}
 use Rattle.worksheets.proofs.Laws.{letters-agree, next-at, ban-at, own-later}
 
 -- the ways to complete a state below so many to an antemer by n letters; from the others there are none
@@ -105,14 +106,17 @@ live-begins : (ρ : Ranking) (w : Word) (live i : ℕ) → i < live → endWays 
 live-begins ρ w live i h =
     ap (λ (t : Bool). cond (t && antemerEnd ρ w i) 1 0) (lt-ltb i live h) ∙ sym (ap (λ (t : Bool). cond t (antemerWays ρ w i 0) 0) (lt-ltb i live h))
 
+-- entries that are 0 from a place on stay 0 past the end
+zero-from : (f : ℕ → ℕ) (n low p : ℕ) → ((i : ℕ) → low ≤ i → f i ≡ 0) → low ≤ p → getD (tabulate f n) p 0 ≡ 0
+zero-from f n low p z h = go (ltb p n) refl
+  where
+    go : (t : Bool) → ltb p n ≡ t → getD (tabulate f n) p 0 ≡ 0
+    go true q = tabulate-at f n p 0 (ltb-true p n q) ∙ z p h
+    go false q = List·getD-eq-default (tabulate f n) 0 (rw length-tabulate (ltb-false p n q))
+
 -- from `live` on there are none
 live-ends : (ρ : Ranking) (w : Word) (live p : ℕ) → live ≤ p → getD (tabulate (endWays ρ w live) 64) p 0 ≡ 0
-live-ends ρ w live p h = go (ltb p 64) refl
-  where
-    go : (t : Bool) → ltb p 64 ≡ t → getD (tabulate (endWays ρ w live) 64) p 0 ≡ 0
-    go true q =
-        tabulate-at (endWays ρ w live) 64 p 0 (ltb-true p 64 q) ∙ ap (λ (t : Bool). cond (t && antemerEnd ρ w p) 1 0) (le-ltb p live h)
-    go false q = List·getD-eq-default (tabulate (endWays ρ w live) 64) 0 (ltb-false p 64 q)
+live-ends ρ w live p h = zero-from (endWays ρ w live) 64 live p (λ i k. ap (λ (t : Bool). cond (t && antemerEnd ρ w i) 1 0) (le-ltb i live k)) h
 
 -- ---- counting
 
@@ -131,9 +135,14 @@ module _ {ρ : Ranking} {w : Word} {m : ℕ} {own marks nexts bans : List ℕ} (
       let e = next-at s i b h k in
       (omega (arith, e, next-le w i b), omega (arith, e, s .alphabets .long, longest-le w (length w) (b ∷ first w i)))
 
-  -- a ban is at most never
-  ban-low : (i b : ℕ) → i ≤ m → b < 4 → getD bans (4 * i + b) 0 ≤ never
-  ban-low i b h k = rw (ban-at s i b h k) (ban-le w (lowBy ρ w) i b (omega (arith, s .alphabets .long, s .alphabets .few)))
+  -- a ban is at most m, or never
+  ban-low : (i b : ℕ) → i ≤ m → b < 4 → (getD bans (4 * i + b) 0 ≤ m) ⊎ (getD bans (4 * i + b) 0 ≡ never)
+  ban-low i b h k = rw (ban-at s i b h k) (go (ltb (ban w (lowBy ρ w) i b) never) refl)
+    where
+      go : (t : Bool) → ltb (ban w (lowBy ρ w) i b) never ≡ t → (ban w (lowBy ρ w) i b ≤ m) ⊎ (ban w (lowBy ρ w) i b ≡ never)
+      go true e = inl (omega (arith, s .alphabets .long, ban-most w (lowBy ρ w) i b (ltb-true (ban w (lowBy ρ w) i b) never e)))
+      go false e =
+          inr (omega (arith, ltb-false (ban w (lowBy ρ w) i b) never e, ban-le w (lowBy ρ w) i b (omega (arith, s .alphabets .long, s .alphabets .few))))
 
   -- a sum over the letters, by the tables
   by-tables : (W : ℕ → ℕ → ℕ) (i n left left′ : ℕ) → i ≤ m → left ≡ left′
@@ -170,7 +179,7 @@ module _ {ρ : Ranking} {w : Word} {m : ℕ} {own marks nexts bans : List ℕ} (
           begins =
               λ i q. ap (λ (l : List ℕ). getD l i 0) e ∙ tabulate-at (endWays ρ w live) 64 i 0 (omega (arith, low)) ∙ live-begins ρ w live i q;
           dead = λ i n p q. ap (λ (t : Bool). cond t (antemerWays ρ w i n) 0) (le-ltb i live p);
-          empty = λ p q l. ap (λ (x : List ℕ). getD x q 0) e ∙ live-ends ρ w live q l;
+          empty = λ p l. ap (λ (x : List ℕ). getD x p 0) e ∙ live-ends ρ w live p l;
           step =
               λ i n p q. live-row c i n p (omega (arith, a .long))
               ∙ by-tables (liveWays ρ w live) i n (suc (n + length w)) (suc n + m) (omega (arith, low)) (omega (arith, a .long));
@@ -185,23 +194,23 @@ module _ {ρ : Ranking} {w : Word} {m : ℕ} {own marks nexts bans : List ℕ} (
         low = omega (arith, c .most, a .long)
 
     -- the postmers are counted from state m, with nothing to follow, in the rows in which w is allowed
-    pub postmer-side : {last : ℕ} → LastsIs ρ w last
-        → Counts (postmerWays ρ w) m (min (k - m) (last - 1)) m 0 (suc m) (tabulate (λ i. 1) 64) nexts bans
-    postmer-side {last} e =
+    pub postmer-side : {last : ℕ} {ones : List ℕ} → LastsIs ρ w last → Written 0 (suc m) 0 (λ i. 1) (tabulate (λ i. 0) 64) ones
+        → Counts (postmerWays ρ w) m (min (k - m) (last - 1)) m 0 (suc m) ones nexts bans
+    postmer-side {last} e o =
         record {
           some = a .some;
           few = omega arith;
           whole = omega arith;
           within = omega arith;
           alive = omega arith;
-          longFirst = refl;
+          longFirst = o .long;
           longNext = long-next;
           longBan = long-ban;
           bans = λ i b q p. ban-low i b (omega arith) p;
           leads = λ i b q p. next-low i b (omega arith) p;
-          begins = λ i q. tabulate-at (λ p. 1) 64 i 0 (omega arith) ∙ sym (ap (λ (t : Bool). cond t 1 0) (postmer-end ρ w (omega (arith, a .long, a .some)) i));
+          begins = λ i q. rw zero-add at (o .inside i (omega arith) q) ∙ sym (ap (λ (t : Bool). cond t 1 0) (postmer-end ρ w (omega (arith, a .long, a .some)) i));
           dead = λ i n p q. absurd (omega arith);
-          empty = λ p. absurd (omega arith);
+          empty = λ p q. o .outside p (inr (omega arith)) ∙ zero-from (λ i. 0) 64 (suc m) p (λ i r. refl) q;
           step = λ i n p q. postmer-row ρ w i n (omega arith) ∙ by-tables (postmerWays ρ w) i n (suc n) (suc n + 0) (omega arith) (sym (add-zero (suc n)));
           free = λ i n p. ways-free ρ w false [] (suc n) i (omega (arith, a .long));
           small = ways-le (postmerOk ρ w) (next w) (postmerEnd ρ w);

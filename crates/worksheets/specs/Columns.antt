@@ -62,40 +62,43 @@ LastsIs ρ w r = r ≡ lasts w (lowBy ρ w) (length w)
 
 -- ---- a row of ways
 
--- the ways on by the letter at place c of the tables, with so many letters left, from the ways behind `from`
-abbrev pub wayOf : ℕ → ℕ → ℕ → List ℕ → List ℕ → List ℕ → ℕ
-wayOf c left from next ban ways = cond (ltb left (getD ban c 0)) (getD ways (from + getD next c 0) 0) 0
+-- the state that a letter leads to; 32, above all states, where it is banned with so many letters left
+abbrev pub leadsTo : ℕ → ℕ → ℕ → ℕ
+leadsTo left ban next = cond (ltb left ban) next 32
+
+-- a table that holds, for each state and letter, the state that the letter leads to
+pub record AllowedBy (left : ℕ) (next ban allowed : List ℕ) : Type 0 where
+  pub long : length allowed ≡ 128
+  pub each : (c : ℕ) → c < 128 → getD allowed c 0 ≡ leadsTo left (getD ban c 0) (getD next c 0)
+
+-- the ways on by the letter at place c, where so many letters are done
+abbrev pub wayOf : ℕ → ℕ → List ℕ → List ℕ → ℕ
+wayOf c done allowed ways = getD ways (done + getD allowed c 0) 0
 
 -- the ways on from a state
-abbrev pub sumOf : ℕ → ℕ → ℕ → List ℕ → List ℕ → List ℕ → ℕ
-sumOf i left from next ban ways = total (map (λ b. wayOf (4 * i + b) left from next ban ways) letters)
+abbrev pub sumOf : ℕ → ℕ → List ℕ → List ℕ → ℕ
+sumOf i done allowed ways = total (map (λ b. wayOf (4 * i + b) done allowed ways) letters)
 
 -- what reading one way asks
-pub record WayReady (c from : ℕ) (next ban ways : List ℕ) : Type 0 where
-  pub longNext : length next ≡ 128
-  pub longBan : length ban ≡ 128
+pub record WayReady (c done : ℕ) (allowed ways : List ℕ) : Type 0 where
+  pub longAllowed : length allowed ≡ 128
   pub longWays : length ways ≡ 64
   pub inside : c < 128
-  pub leads : from + getD next c 0 < 64
-  pub short : getD ban c 0 ≤ 64
+  pub leads : done + getD allowed c 0 < 64
 
--- what writing a row asks: no sum passes 4^31
-pub record RowReady (lo hi done left : ℕ) (next ban ways : List ℕ) : Type 0 where
-  pub longNext : length next ≡ 128
-  pub longBan : length ban ≡ 128
+-- what writing a row asks: what is written stands below place 32, no letter leads past the next state but to 32, and no sum passes 4^31
+pub record RowReady (lo hi done : ℕ) (allowed ways : List ℕ) : Type 0 where
+  pub longAllowed : length allowed ≡ 128
   pub longWays : length ways ≡ 64
   pub ordered : lo ≤ hi
-  pub high : hi ≤ 32
-  pub short : done < 31
-  pub leads : (i b : ℕ) → i < hi → b < 4 → getD next (4 * i + b) 0 ≤ suc i
-  pub bans : (i b : ℕ) → i < hi → b < 4 → getD ban (4 * i + b) 0 ≤ 64
-  pub small : (i b : ℕ) → lo ≤ i → i < hi → b < 4 → wayOf (4 * i + b) left done next ban ways ≤ 4 ^ 30
+  pub high : suc done + hi ≤ 32
+  pub leads : (i b : ℕ) → i < hi → b < 4 → (getD allowed (4 * i + b) 0 ≤ suc i) ⊎ (getD allowed (4 * i + b) 0 ≡ 32)
+  pub small : (i b : ℕ) → lo ≤ i → i < hi → b < 4 → wayOf (4 * i + b) done allowed ways ≤ 4 ^ 30
 
--- what writing powers asks
+-- what writing one number for several states asks
 pub record FreeReady (free r : ℕ) (ways : List ℕ) : Type 0 where
   pub longWays : length ways ≡ 64
-  pub few : free ≤ 31
-  pub short : r ≤ 31
+  pub fits : r + free ≤ 64
 
 -- behind `to`, the entries from lo to below hi are written and no other is
 pub record Written (lo hi to : ℕ) (new : ℕ → ℕ) (old ways : List ℕ) : Type 0 where
@@ -115,11 +118,11 @@ pub record Counts (W : ℕ → ℕ → ℕ) (m rows start follow live : ℕ) (fi
   pub longFirst : length first ≡ 64
   pub longNext : length next ≡ 128
   pub longBan : length ban ≡ 128
-  pub bans : (i b : ℕ) → i < live → b < 4 → getD ban (4 * i + b) 0 ≤ 64
+  pub bans : (i b : ℕ) → i < live → b < 4 → (getD ban (4 * i + b) 0 ≤ m) ⊎ (getD ban (4 * i + b) 0 ≡ 64)
   pub leads : (i b : ℕ) → i < live → b < 4 → (getD next (4 * i + b) 0 ≤ suc i) × (getD next (4 * i + b) 0 ≤ m)
   pub begins : (i : ℕ) → i < live → getD first i 0 ≡ W i 0
   pub dead : (i n : ℕ) → live ≤ i → i ≤ m → W i n ≡ 0
-  pub empty : live ≤ m → (p : ℕ) → live ≤ p → getD first p 0 ≡ 0
+  pub empty : (p : ℕ) → live ≤ p → getD first p 0 ≡ 0
   pub step : (i n : ℕ) → i < live → suc n ≤ rows
       → W i (suc n) ≡ total (map (λ b. cond (ltb (suc n + follow) (getD ban (4 * i + b) 0)) (W (getD next (4 * i + b) 0) n) 0) letters)
   pub free : (i n : ℕ) → i + (suc n + follow) < m → W i (suc n) ≡ 4 ^ suc n

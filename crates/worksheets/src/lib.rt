@@ -7,9 +7,10 @@
 // stands nothing, so only an m-mer for which letters are left exists, and where none can exist any more the ways are a power of four.
 ghost use mathlib.Core.Path.{_≡_};
 ghost use Prim.Native.Nat.{suc, _-_, _^_, _≤_, _<_};
+ghost use Rattle.definitions.specs.Lists.{tabulate};
 ghost use Rattle.definitions.specs.Outcomes.{worksheetOutcome, sizeOutcome};
 ghost use Rattle.states.specs.Tables.{AlphabetsOf};
-ghost use Rattle.worksheets.specs.Columns.{Known, All, StatesOf, CaughtIs, EndIs, EndsAre, ReachIs, LastsIs, wayOf, sumOf, WayReady, RowReady, FreeReady, Written, Countable, CountedBy, SheetIs, productSum};
+ghost use Rattle.worksheets.specs.Columns.{Known, All, StatesOf, CaughtIs, EndIs, EndsAre, ReachIs, LastsIs, leadsTo, AllowedBy, wayOf, sumOf, WayReady, RowReady, FreeReady, Written, Countable, CountedBy, SheetIs, productSum};
 ghost use Rattle.worksheets.specs.Answers.{worked, counted};
 
 // How a letter is marked in the special alphabets.
@@ -17,8 +18,11 @@ const BELOW: u8 = 0;
 
 const EQUAL: u8 = 1;
 
-// Above every row of a worksheet.
+// More letters than are ever left, as `states` has it, and so above every row.
 const NEVER: u64 = 64;
+
+// A state above all others, where a banned letter leads: there are no ways from it.
+const NOWHERE: u8 = 32;
 
 // Whether the m-mer that has the first i letters of w and then w's first letters again comes out below w, or is w.
 fn caught(m: u64, i: u64, own: &[u8; 32], marks: &[u8; 128]) -> bool
@@ -111,54 +115,60 @@ fn lasts(m: u64, own: &[u8; 32], marks: &[u8; 128], next: &[u8; 128], ban: &[u8;
     rows
 }
 
-// The ways on by one letter: those from the state that it leads to, or none where it is banned with so many letters left.
-fn way(c: usize, left: u64, from: u64, next: &[u8; 128], ban: &[u8; 128], ways: &[u64; 64]) -> u64
-    requires { ⌜ WayReady c from (now next) (now ban) (now ways) ⌝ }
-    ensures { λ r. ⌜ r ≡ wayOf c left from (now (next .entry)) (now (ban .entry)) (now (ways .entry)) ⌝ }
+// The state that a letter leads to, or NOWHERE where it is banned with so many letters left.
+fn leads_to(left: u8, ban: u8, next: u8) -> u8
+    ensures { λ r. ⌜ r ≡ leadsTo left ban next ⌝ }
 {
-    let there = ways[(from + next[c] as u64) as usize];
-    if left < ban[c] as u64 {
-        return there;
+    if left < ban { next } else { NOWHERE }
+}
+
+// For each state and letter the state that the letter leads to, or NOWHERE where it is banned with so many letters left.
+fn allowed_letters(left: u64, next: &[u8; 128], ban: &[u8; 128]) -> [u8; 128]
+    requires { ⌜ left < 64 ⌝ }
+    ensures { λ r. ⌜ AllowedBy left (now (next .entry)) (now (ban .entry)) r ⌝ }
+{
+    let few = left as u8;
+    let mut allowed: [u8; 128] = [NOWHERE; 128];
+    let mut c: usize = 0;
+    while c < 128 {
+        allowed[c] = leads_to(few, ban[c], next[c]);
+        c += 1;
     }
-    0
+    allowed
+}
+
+// The ways on by one letter.
+fn way(c: usize, done: u64, allowed: &[u8; 128], ways: &[u64; 64]) -> u64
+    requires { ⌜ WayReady c done (now allowed) (now ways) ⌝ }
+    ensures { λ r. ⌜ r ≡ wayOf c done (now (allowed .entry)) (now (ways .entry)) ⌝ }
+{
+    ways[(done + allowed[c] as u64) as usize]
 }
 
 // Writes, for the states from `lo` to below `hi`, the ways to complete each by one letter more than stood there. State i with r letters stands
 // at place r + i, where state i + 1 stood with one letter less: from the highest state down, nothing is lost that is still wanted.
-fn ways_row(
-    lo: u64,
-    hi: u64,
-    done: u64,
-    left: u64,
-    next: &[u8; 128],
-    ban: &[u8; 128],
-    ways: &mut [u64; 64],
-)
-    requires { ⌜ RowReady lo hi done left (now next) (now ban) (now ways) ⌝ }
-    ensures { λ _. ⌜ Written lo hi (suc done) (λ i. sumOf i left done (now (next .entry)) (now (ban .entry)) (now (ways .entry))) (now (ways .entry)) (now (ways .exit)) ⌝ }
+fn ways_row(lo: u64, hi: u64, done: u64, allowed: &[u8; 128], ways: &mut [u64; 64])
+    requires { ⌜ RowReady lo hi done (now allowed) (now ways) ⌝ }
+    ensures { λ _. ⌜ Written lo hi (suc done) (λ i. sumOf i done (now (allowed .entry)) (now (ways .entry))) (now (ways .entry)) (now (ways .exit)) ⌝ }
 {
     let to = done + 1;
     let mut i = hi;
     while lo < i {
         i -= 1;
         let c = (4 * i) as usize;
-        let a_way = way(c, left, done, next, ban, ways);
-        let c_way = way(c + 1, left, done, next, ban, ways);
-        let g_way = way(c + 2, left, done, next, ban, ways);
-        let t_way = way(c + 3, left, done, next, ban, ways);
+        let a_way = way(c, done, allowed, ways);
+        let c_way = way(c + 1, done, allowed, ways);
+        let g_way = way(c + 2, done, allowed, ways);
+        let t_way = way(c + 3, done, allowed, ways);
         ways[(to + i) as usize] = a_way + c_way + g_way + t_way;
     }
 }
 
-// Writes 4^r for the states below `free`: from these no m-mer can exist any more.
-fn free_row(free: u64, r: u64, ways: &mut [u64; 64])
+// Writes the ways of the states below `free`, which are all the same, with r letters.
+fn free_row(free: u64, r: u64, power: u64, ways: &mut [u64; 64])
     requires { ⌜ FreeReady free r (now ways) ⌝ }
-    ensures { λ _. ⌜ Written 0 free r (λ i. 4 ^ r) (now (ways .entry)) (now (ways .exit)) ⌝ }
+    ensures { λ _. ⌜ Written 0 free r (λ i. power) (now (ways .entry)) (now (ways .exit)) ⌝ }
 {
-    if free == 0 {
-        return;
-    }
-    let power = words::power(r);
     let mut i: u64 = 0;
     while i < free {
         ways[(r + i) as usize] = power;
@@ -174,30 +184,37 @@ struct Side {
 }
 
 // The column of a side, from the ways to complete each state by no letter: row r, up to the last of so many, holds the ways to complete the
-// start by r letters. A state that no start reaches with the letters that are left is passed over.
+// start by r letters. Which letters are banned changes while fewer letters than w has are left; from the states in which no m-mer can exist any
+// more the ways are a power of four; a state from which the start is too far away is passed over.
 fn column(
     m: u64,
     rows: u64,
     side: Side,
     first: [u64; 64],
+    powers: &[u64; 32],
     next: &[u8; 128],
     ban: &[u8; 128],
 ) -> [u64; 31]
     requires { ⌜ Countable m rows (side .start) (side .follow) (side .live) first (now next) (now ban) ⌝ }
+    requires { ⌜ now powers ≡ tabulate (λ n. 4 ^ n) 32 ⌝ }
     ensures { λ r. ⌜ CountedBy m rows (side .start) (side .follow) (side .live) first (now (next .entry)) (now (ban .entry)) r ⌝ }
 {
     let start = side.start;
     let mut ways = first;
     let mut column: [u64; 31] = [0; 31];
     column[0] = ways[start as usize];
+    let mut allowed = allowed_letters(side.follow, next, ban);
     let mut done: u64 = 0;
     while done < rows {
         let r = done + 1;
         let left = r + side.follow;
         let free = m - words::lesser(m, left);
         let needed = words::lesser(side.live, start + rows + 1 - r);
-        ways_row(free, needed, done, left, next, ban, &mut ways);
-        free_row(free, r, &mut ways);
+        if left <= m {
+            allowed = allowed_letters(left, next, ban);
+        }
+        ways_row(free, needed, done, &allowed, &mut ways);
+        free_row(free, r, powers[r as usize], &mut ways);
         column[r as usize] = ways[(r + start) as usize];
         done = r;
     }
@@ -234,9 +251,12 @@ fn sheet_of(k: u64, m: u64, s: states::States) -> Sheet
         live: m + 1,
     };
     let first = ends(m, live, &own, &marks, &next, &ban);
-    let antemers = column(m, rows, before, first, &next, &ban);
+    let powers = words::powers();
+    let antemers = column(m, rows, before, first, &powers, &next, &ban);
     let begun = words::lesser(rows, last - 1);
-    let postmers = column(m, begun, after, [1; 64], &next, &ban);
+    let mut ones: [u64; 64] = [0; 64];
+    free_row(m + 1, 0, 1, &mut ones);
+    let postmers = column(m, begun, after, ones, &powers, &next, &ban);
     Sheet { antemers, postmers }
 }
 

@@ -13,18 +13,18 @@ use Rattle.worksheets.proofs.ways_row.Statement.{statement}
 use Rattle.worksheets.proofs.ways_row.Tie as tie
 
 abbrev Inv-loop : tie.InvT-loop
-Inv-loop lo hi done left next ban ways₀ to i₀ ways i =
-    (lo ≤ i) × (i ≤ hi) × Written i hi (suc done) (λ j. sumOf j left done next ban ways₀) ways₀ ways
+Inv-loop lo hi done allowed ways₀ to i₀ ways i =
+    (lo ≤ i) × (i ≤ hi) × Written i hi (suc done) (λ j. sumOf j done allowed ways₀) ways₀ ways
 
 abbrev μ-loop : tie.MeasureT-loop
-μ-loop lo hi done left next ban ways₀ to i₀ ways i = i - lo
+μ-loop lo hi done allowed ways₀ to i₀ ways i = i - lo
 
 -- what is written begins after the state below it
 lowered : {i hi r : ℕ} {new : ℕ → ℕ} {old ways : List ℕ} → 0 < i → Written i hi r new old ways → Written (suc (i - 1)) hi r new old ways
 lowered {i} h s = let e : suc (i - 1) ≡ i = omega arith in rw e s
 
 add-to : tie.Need-add-to Inv-loop μ-loop
-add-to c = omega (arith, c .pre .short)
+add-to c = omega (arith, c .pre .high)
 
 loop-holds : tie.Need-loop-holds Inv-loop μ-loop
 loop-holds c = (c .pre .ordered, omega arith, written-none _ _)
@@ -68,7 +68,7 @@ way-requires-4 c κs =
 stored : (c : tie.After-way4 Inv-loop μ-loop)
     → let args = c .before .before .before .before .before .before .before .before .before .before .args in
     let sum = c .before .before .before .before .before .before .way .result + c .before .before .before .before .way2 .result + c .before .before .way3 .result + c .way4 .result in
-    (sum ≡ sumOf (c .before .before .before .before .before .before .before .before .before .loop .i - 1) (args .left) (args .done) (args .next .now) (args .ban .now) (args .ways .now)) × (sum ≤ 4 ^ 31)
+    (sum ≡ sumOf (c .before .before .before .before .before .before .before .before .before .loop .i - 1) (args .done) (args .allowed .now) (args .ways .now)) × (sum ≤ 4 ^ 31)
 stored c =
     let at = c .before .before .before .before .before .before .before .before .before .loop in
     four-ways (c .before .before .before .before .before .before .before .before .before .before .pre) (lowered (omega arith) (at .inv .2)) (omega arith) (omega arith)
@@ -76,7 +76,7 @@ stored c =
 
 -- it is stored inside the ways
 inside : (c : tie.After-way4 Inv-loop μ-loop) → c .before .before .before .before .before .before .before .before .before .before .args .done + 1 + (c .before .before .before .before .before .before .before .before .before .loop .i - 1) < 64
-inside c = let ready = c .before .before .before .before .before .before .before .before .before .before .pre in omega (arith, ready .high, ready .short)
+inside c = let ready = c .before .before .before .before .before .before .before .before .before .before .pre in omega (arith, ready .high)
 
 add-ways : tie.Need-add-ways Inv-loop μ-loop
 add-ways c = omega (arith, stored c .1)
