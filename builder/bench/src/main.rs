@@ -1,6 +1,11 @@
-//! Checks the scans against the plain one and measures them. `check` checks alone; otherwise it checks, then measures.
+//! Checks the scans against the plain one and the sizes against independent counts, and measures them. `check` checks alone;
+//! otherwise it checks, then measures.
 
+mod counts;
+mod masks;
+mod paper;
 mod rivals;
+mod sizes;
 
 use std::hint::black_box;
 use std::process::exit;
@@ -69,6 +74,7 @@ fn main() {
         None | Some("measure") => {
             check();
             measure();
+            sizes::measure();
         }
         Some(other) => {
             eprintln!("unknown mode {other}: say check, measure or nothing");
@@ -208,6 +214,7 @@ fn check() {
     #[cfg(has_library)]
     check_pointers(&mut checks);
     check_random(&mut checks);
+    checks.passed += sizes::check();
     println!("{} checks passed", checks.passed);
 }
 

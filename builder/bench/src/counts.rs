@@ -1,0 +1,261 @@
+//! Counts from the definitions alone, for the others to be checked against. They share no rule with source 000, and have no
+//! table by shared prefix: those up to k = 31 follow the m-mers that are tied with w, letter by letter; the brute ones, for
+//! small k, run through all words.
+
+#![forbid(unsafe_code)]
+
+use crate::Numbers;
+use std::collections::HashMap;
+
+/// The two columns of a worksheet: antemers and postmers.
+pub type Worksheet = ([u64; 31], [u64; 31]);
+
+// ---- letter by letter
+
+/// What a letter b is beside the letter of w, once both are keyed.
+#[derive(Clone, Copy)]
+enum Sign {
+    Below,
+    Equal,
+    Above,
+}
+
+/// What is asked of the m-mers that are equal to w.
+#[derive(Clone, Copy, PartialEq)]
+enum Equals {
+    None,
+    Any,
+    Some,
+}
+
+/// The words to be counted: some letters are given, and the m-mers that start before `starts` must not be below w.
+struct Asked {
+    letters: Vec<Option<u8>>,
+    starts: usize,
+    equals: Equals,
+}
+
+/// How far a word is read. Bit t of `tied` stands for the m-mer that has t letters so far, all equal to those of w; `met`
+/// tells whether w was met.
+#[derive(Clone, Copy, PartialEq, Eq, Hash)]
+struct Place {
+    at: usize,
+    tied: u32,
+    met: bool,
+}
+
+/// Counts the words asked for. What can follow depends on the place alone, so each place is counted once.
+struct Counter {
+    /// By the number of letters that an m-mer has, and the letter that comes.
+    signs: Vec<[Sign; 4]>,
+    asked: Asked,
+    known: HashMap<Place, u64>,
+}
+
+impl Counter {
+    fn count(m: u64, key: u64, word: u64, asked: Asked) -> u64 {
+        let signs = letters(m, word).into_iter().zip(letters(m, key)).map(|(a, c)| signs(a, c)).collect();
+        let mut counter = Counter { signs, asked, known: HashMap::new() };
+        counter.from(Place { at: 0, tied: 0, met: false })
+    }
+
+    /// The number of ways to go on from this place to the end.
+    fn from(&mut self, place: Place) -> u64 {
+        if place.at == self.asked.letters.len() {
+            return u64::from(place.met || self.asked.equals != Equals::Some);
+        }
+        if let Some(&count) = self.known.get(&place) {
+            return count;
+        }
+        let choices = match self.asked.letters[place.at] {
+            Some(letter) => letter..=letter,
+            None => 0..=3,
+        };
+        let mut count = 0;
+        for letter in choices {
+            if let Some(next) = self.read(place, letter) {
+                count += self.from(next);
+            }
+        }
+        self.known.insert(place, count);
+        count
+    }
+
+    /// The place after this letter, or none where an m-mer is below w, or equal to it against what is asked.
+    fn read(&self, place: Place, letter: u8) -> Option<Place> {
+        let begun = place.tied | u32::from(place.at < self.asked.starts);
+        let mut next = Place { at: place.at + 1, tied: 0, met: place.met };
+        for (t, signs) in self.signs.iter().enumerate().filter(|(t, _)| (begun >> t) & 1 == 1) {
+            match signs[usize::from(letter)] {
+                Sign::Below => return None,
+                Sign::Above => {}
+                Sign::Equal if t + 1 < self.signs.len() => next.tied |= 1 << (t + 1),
+                Sign::Equal if self.asked.equals == Equals::None => return None,
+                Sign::Equal => next.met = true,
+            }
+        }
+        Some(next)
+    }
+}
+
+/// The letters of a word, the first first.
+fn letters(m: u64, word: u64) -> Vec<u8> {
+    (0..m).rev().map(|place| (word >> (2 * place)) as u8 & 3).collect()
+}
+
+fn signs(a: u8, c: u8) -> [Sign; 4] {
+    [0, 1, 2, 3].map(|b: u8| match (b ^ c).cmp(&(a ^ c)) {
+        std::cmp::Ordering::Less => Sign::Below,
+        std::cmp::Ordering::Equal => Sign::Equal,
+        std::cmp::Ordering::Greater => Sign::Above,
+    })
+}
+
+/// The k-mers with no m-mer below w and with w among them: then w is the least, and the leftmost of equals is w too.
+pub fn size(k: u64, m: u64, key: u64, word: u64) -> u64 {
+    let asked = Asked { letters: vec![None; k as usize], starts: (k - m + 1) as usize, equals: Equals::Some };
+    Counter::count(m, key, word, asked)
+}
+
+/// Antemers: any letters and then w, where each m-mer but the last is above w. Postmers: w and then any letters.
+pub fn worksheet(k: u64, m: u64, key: u64, word: u64) -> Worksheet {
+    let w: Vec<Option<u8>> = letters(m, word).into_iter().map(Some).collect();
+    let (mut antemers, mut postmers) = ([0; 31], [0; 31]);
+    for row in 0..=(k - m) as usize {
+        let any = vec![None; row];
+        let before = Asked { letters: [&any[..], &w].concat(), starts: row, equals: Equals::None };
+        let after = Asked { letters: [&w[..], &any].concat(), starts: row + 1, equals: Equals::Any };
+        antemers[row] = Counter::count(m, key, word, before);
+        postmers[row] = Counter::count(m, key, word, after);
+    }
+    (antemers, postmers)
+}
+
+// ---- by running through all words
+
+/// The keyed m-mers of a word of this length, from left to right.
+fn keyed_mers(length: u64, m: u64, key: u64, word: u64) -> impl Iterator<Item = u64> {
+    (0..=length - m).rev().map(move |after| ((word >> (2 * after)) % 4u64.pow(m as u32)) ^ key)
+}
+
+/// For small k: each k-mer is asked for its vigemin.
+pub fn brute_size(k: u64, m: u64, key: u64, word: u64) -> u64 {
+    let vigemin = |mer: &u64| keyed_mers(k, m, key, *mer).min().map(|least| least ^ key);
+    (0..4u64.pow(k as u32)).filter(|mer| vigemin(mer) == Some(word)).count() as u64
+}
+
+/// For small k−m: each word is set before w, and after w.
+pub fn brute_worksheet(k: u64, m: u64, key: u64, word: u64) -> Worksheet {
+    let (mut antemers, mut postmers) = ([0; 31], [0; 31]);
+    for row in 0..=k - m {
+        let (words, length) = (4u64.pow(row as u32), m + row);
+        let before = |y: u64| keyed_mers(length, m, key, y * 4u64.pow(m as u32) + word);
+        let after = |z: u64| keyed_mers(length, m, key, word * words + z);
+        let antemer = |y: &u64| before(*y).take(row as usize).all(|mer| mer > word ^ key);
+        let postmer = |z: &u64| after(*z).all(|mer| mer >= word ^ key);
+        antemers[row as usize] = (0..words).filter(antemer).count() as u64;
+        postmers[row as usize] = (0..words).filter(postmer).count() as u64;
+    }
+    (antemers, postmers)
+}
+
+// ---- drawing
+
+/// A valid k, m, key and word. Many words have m-mers that stay tied for long, by a short repeat.
+pub fn drawn(numbers: &mut Numbers) -> (u64, u64, u64, u64) {
+    let k = if numbers.one_in(3) { 31 } else { 1 + numbers.below(31) };
+    let m = 1 + numbers.below(k);
+    let word = drawn_word(numbers, m);
+    (k, m, drawn_key(numbers, m, word), word)
+}
+
+fn drawn_word(numbers: &mut Numbers, m: u64) -> u64 {
+    match numbers.below(4) {
+        0 => any_word(numbers, m),
+        1 => repeat(numbers, m) ^ ((1 + numbers.below(3)) << (2 * numbers.below(m))),
+        _ => repeat(numbers, m),
+    }
+}
+
+fn drawn_key(numbers: &mut Numbers, m: u64, word: u64) -> u64 {
+    let all_t = 4u64.pow(m as u32) - 1;
+    match numbers.below(8) {
+        0 => 0,
+        1 => all_t,
+        2 => word,
+        3 => word ^ all_t,
+        4 => word ^ repeat(numbers, m),
+        5 => repeat(numbers, m),
+        _ => any_word(numbers, m),
+    }
+}
+
+pub fn any_word(numbers: &mut Numbers, m: u64) -> u64 {
+    numbers.next() % 4u64.pow(m as u32)
+}
+
+/// One to four letters over and over, such as AAAA, ATATAT or ACACA.
+pub fn repeat(numbers: &mut Numbers, m: u64) -> u64 {
+    let period = 1 + numbers.below(4);
+    let unit = any_word(numbers, period);
+    (0..m).fold(0, |word, i| 4 * word + (unit >> (2 * (i % period))) % 4)
+}
+
+// ---- checking these counts themselves
+
+/// Ends the program by a panic where a count is not as known or the two ways differ; answers how many were compared.
+pub fn check_independent() -> u64 {
+    check_known() + check_with_brute() + check_sums()
+}
+
+/// The sizes and rows that document 01 tells.
+fn check_known() -> u64 {
+    let sizes = |k, m, key| (0..4u64.pow(m as u32)).map(|word| size(k, m, key, word)).collect::<Vec<u64>>();
+    let rows = |k, m, key, word| {
+        let (antemers, postmers) = worksheet(k, m, key, word);
+        [antemers[0], antemers[1], antemers[2], postmers[0], postmers[1], postmers[2]]
+    };
+    assert_eq!(sizes(2, 1, 1), [5, 7, 1, 3], "W1");
+    assert_eq!(size(3, 2, 0, 10), 3, "W2");
+    assert_eq!(rows(3, 2, 0, 10), [1, 1, 0, 1, 2, 0], "W2");
+    assert_eq!(size(4, 3, 48, 0), 4, "W3");
+    assert_eq!(rows(4, 3, 48, 0), [1, 0, 0, 1, 4, 0], "W3");
+    assert_eq!(size(3, 2, 3, 12), 0, "W4");
+    assert_eq!(sizes(3, 2, 0), [7, 7, 7, 7, 3, 5, 6, 6, 2, 2, 3, 5, 1, 1, 1, 1], "key AA");
+    assert_eq!(size(31, 1, 0, 0), 4_611_068_345_031_103_957, "k 31, key A, word A");
+    assert_eq!(size(31, 1, 0, 3), 1, "k 31, key A, word T");
+    9
+}
+
+/// Every key and word of up to two letters, and drawn ones of more, for k up to 5.
+fn check_with_brute() -> u64 {
+    let mut numbers = Numbers(0xA076_1D64_78BD_642F);
+    let mut compared = 0;
+    for k in 1..=5 {
+        for m in 1..=k {
+            let words = 4u64.pow(m as u32);
+            for at in 0..256.min(words * words) {
+                let word = if m <= 2 { at % words } else { drawn_word(&mut numbers, m) };
+                let key = if m <= 2 { at / words } else { drawn_key(&mut numbers, m, word) };
+                let input = (k, m, key, word);
+                assert_eq!(size(k, m, key, word), brute_size(k, m, key, word), "size of {input:?}");
+                assert_eq!(worksheet(k, m, key, word), brute_worksheet(k, m, key, word), "worksheet of {input:?}");
+                compared += 2;
+            }
+        }
+    }
+    compared
+}
+
+/// The size is the sum over the rows of antemers times postmers; here it was not counted so.
+fn check_sums() -> u64 {
+    let mut numbers = Numbers(0xE703_7ED1_A0B4_28DB);
+    for _ in 0..200 {
+        let (k, m, key, word) = drawn(&mut numbers);
+        let (antemers, postmers) = worksheet(k, m, key, word);
+        let last = (k - m) as usize;
+        let sum: u64 = (0..=last).map(|row| antemers[last - row] * postmers[row]).sum();
+        assert_eq!(size(k, m, key, word), sum, "sum of {:?}", (k, m, key, word));
+    }
+    200
+}
