@@ -9,8 +9,8 @@
 //   T, and i−T+2        next, at row i and letter b: the state after b, the longest one that is still tied. Where b is w's own letter that is
 //                       i+1; else it is what follows from `fall`
 //   a letter is banned  where some tied m-mer exists and b ranks below w's letter in it. ban, at row i and letter b, has the fewest letters left,
-//                       b among them, at which that is so; NEVER where it never is. Among tied m-mers the one that began last is the first to end
-//                       too late, so the longest tied state at which b ranks below decides
+//                       b among them, at which that is so; NEVER where it never is. Of the tied m-mers the one that began first needs the
+//                       fewest letters more, so the longest tied state at which b ranks below decides
 ghost use mathlib.Core.Path.{_≡_};
 ghost use mathlib.Core.List.{map};
 ghost use Prim.Native.Nat.{_*_, _≤_, _<_};
@@ -122,7 +122,7 @@ fn next_state(mark: u8, i: u64, fallen: u8) -> u8
     fallen
 }
 
-// When a letter with such a mark is banned: as soon as the m-mer that began with these states exists, or as at the state that i falls to.
+// When a letter with such a mark is banned: as soon as the rest of w fits into the letters left, or as at the state that i falls to.
 fn banned_from(mark: u8, left: u64, fallen: u8) -> u8
     requires { ⌜ left ≤ 31 ⌝ }
     ensures { λ r. ⌜ r ≡ banBy mark left fallen ⌝ }
