@@ -4,10 +4,11 @@ use Prim.Native.Nat.{ℕ, zero, suc, _+_, _-_, _*_, _≤_, _<_}
 use mathlib.Core.Bool.{cond}
 use mathlib.Core.List.{List, _∷_, map}
 use mathlib.Core.Path.{_≡_, refl, sym, ap, fun-ext, _∙_}
+use native.Mathlib.Numerals.{add-one}
 use native.Mathlib.Omega.{arith}
 use borrow.Author.Tests.{lt-leb}
 use lib.Dec.{leb}
-use lib.ListN.{length, getD, take, drop}
+use lib.ListN.{length, getD}
 use lib.Seq.{sets}
 use Rattle.definitions.specs.Words.{Word, letters}
 use Rattle.laws.specs.Filters.{tabulate-at}
@@ -17,7 +18,7 @@ use Rattle.laws.specs.States.{first, next, longest-le}
 use Rattle.laws.specs.Falls.{fall, fallen, fall-le, fall-by-next}
 use Rattle.laws.specs.Bans.{never, ban, lowBy}
 use Rattle.states.specs.Grids.{grid, length-grid, grid-row, grid-at}
-use Rattle.states.specs.Tables.{nextBy, banBy, markAt, nextAt, banAt, AlphabetsOf, LinksOf}
+use Rattle.states.specs.Tables.{rowOf, linkedRow, markAt, nextAt, banAt, AlphabetsOf, LinksOf}
 use Rattle.states.proofs.Rows.{row-agree, written, written-all, write-row}
 use Rattle.states.proofs.Marks.{at-fall, next-by-mark, ban-by-mark}
 
@@ -96,35 +97,29 @@ module _ {ρ : Ranking} {w : Word} {m : ℕ} {own marks : List ℕ} (a : Alphabe
   }
 
   -- the marks of state i
-  marks-here : {row : List ℕ} → row ≡ take 4 (drop (4 * i) marks) → row ≡ map (markAt ρ w i) letters
-  marks-here e = e ∙ ap (λ (l : List ℕ). take 4 (drop (4 * i) l)) (a .ranks) ∙ grid-row (markAt ρ w) i (omega (arith, a .few))
+  marks-here : {row : List ℕ} → row ≡ rowOf i marks → row ≡ map (markAt ρ w i) letters
+  marks-here e = e ∙ ap (rowOf i) (a .ranks) ∙ grid-row (markAt ρ w) i (omega (arith, a .few))
 
   -- the row of the state that it falls to
-  row-fallen : (d : ℕ) (f : ℕ → ℕ → ℕ) {table row : List ℕ} → table ≡ grid (written i (λ b. d) (λ s b. cond (leb s (length w)) (f s b) d))
-      → row ≡ take 4 (drop (4 * now) table) → row ≡ map (λ b. fallen w d (λ s. f s b) i) letters
-  row-fallen d f q e =
-      e ∙ ap (λ (l : List ℕ). take 4 (drop (4 * now) l)) q ∙ grid-row (written i (λ b. d) (λ s b. cond (leb s (length w)) (f s b) d)) now small
+  row-fallen : (d : ℕ) (f : ℕ → ℕ → ℕ) {table : List ℕ} → table ≡ grid (written i (λ b. d) (λ s b. cond (leb s (length w)) (f s b) d))
+      → rowOf now table ≡ map (λ b. fallen w d (λ s. f s b) i) letters
+  row-fallen d f q =
+      ap (rowOf now) q ∙ grid-row (written i (λ b. d) (λ s b. cond (leb s (length w)) (f s b) d)) now small
       ∙ rw (r .falls inside) (ap (λ (g : ℕ → ℕ). map g letters) (at-fall w d f i inside))
 
   -- the row of next states of state i, by its marks and by that of the state that it falls to
-  next-here : {here lower row : List ℕ} → here ≡ take 4 (drop (4 * i) marks) → lower ≡ take 4 (drop (4 * now) nexts)
-      → row ≡ map (λ b. nextBy (getD here b 0) i (getD lower b 0)) letters → row ≡ map (nextAt w i) letters
-  next-here p q e =
-      e ∙ rw (marks-here p, row-fallen 0 (next w) (r .nextRows) q) (row-agree (λ b k. next-by-mark ρ w (a .one) (a .letters) i b inside k))
+  next-here : {here : List ℕ} → here ≡ rowOf i marks → linkedRow 1 (i + 1) here (rowOf now nexts) ≡ map (nextAt w i) letters
+  next-here p = rw (add-one, marks-here p, row-fallen 0 (next w) (r .nextRows)) (row-agree (λ b k. next-by-mark ρ w (a .one) (a .letters) i b inside k))
 
   -- and its row of bans
-  ban-here : {here lower row : List ℕ} → here ≡ take 4 (drop (4 * i) marks) → lower ≡ take 4 (drop (4 * now) bans)
-      → row ≡ map (λ b. banBy (getD here b 0) (m - i) (getD lower b 0)) letters → row ≡ map (banAt ρ w i) letters
-  ban-here p q e =
-      e ∙ rw (marks-here p, row-fallen never (ban w (lowBy ρ w)) (r .banRows) q, ← a .long) (row-agree (λ b k. ban-by-mark ρ w i b inside))
+  ban-here : {here : List ℕ} → here ≡ rowOf i marks → linkedRow 0 (m - i) here (rowOf now bans) ≡ map (banAt ρ w i) letters
+  ban-here p = rw (marks-here p, row-fallen never (ban w (lowBy ρ w)) (r .banRows), ← a .long) (row-agree (λ b k. ban-by-mark ρ w i b inside))
 
   -- one state more
-  pub reached-more : {here lower₁ row₁ lower₂ row₂ nexts′ bans′ : List ℕ} → here ≡ take 4 (drop (4 * i) marks)
-      → lower₁ ≡ take 4 (drop (4 * now) nexts) → row₁ ≡ map (λ b. nextBy (getD here b 0) i (getD lower₁ b 0)) letters → nexts′ ≡ sets nexts (4 * i) row₁
-      → lower₂ ≡ take 4 (drop (4 * now) bans) → row₂ ≡ map (λ b. banBy (getD here b 0) (m - i) (getD lower₂ b 0)) letters → bans′ ≡ sets bans (4 * i) row₂
-      → Reached ρ w (suc i) (getD nexts (4 * now + getD own i 0) 0) nexts′ bans′
-  reached-more p q₁ e₁ s₁ q₂ e₂ s₂ = record {
-    nextRows = s₁ ∙ write-row (λ b. 0) (nextAt w) i (omega (arith, a .few)) (r .nextRows) (next-here p q₁ e₁);
-    banRows = s₂ ∙ write-row (λ b. never) (banAt ρ w) i (omega (arith, a .few)) (r .banRows) (ban-here p q₂ e₂);
+  pub reached-more : {here nexts′ bans′ : List ℕ} → here ≡ rowOf i marks → nexts′ ≡ sets nexts (4 * i) (linkedRow 1 (i + 1) here (rowOf now nexts))
+      → bans′ ≡ sets bans (4 * i) (linkedRow 0 (m - i) here (rowOf now bans)) → Reached ρ w (suc i) (getD nexts (4 * now + getD own i 0) 0) nexts′ bans′
+  reached-more p s₁ s₂ = record {
+    nextRows = s₁ ∙ write-row (λ b. 0) (nextAt w) i (omega (arith, a .few)) (r .nextRows) (next-here p);
+    banRows = s₂ ∙ write-row (λ b. never) (banAt ρ w) i (omega (arith, a .few)) (r .banRows) (ban-here p);
     falls = λ k. after-is ∙ sym (fall-by-next w i k);
   }

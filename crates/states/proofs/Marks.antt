@@ -13,7 +13,7 @@ use Rattle.laws.specs.Orders.{Ranking, OneToOne, rank-same}
 use Rattle.laws.specs.States.{next}
 use Rattle.laws.specs.Falls.{fall, fallen, fall-le, next-by-fall}
 use Rattle.laws.specs.Bans.{never, ban, lowBy, ban-by-fall}
-use Rattle.states.specs.Tables.{markOf, nextBy, banBy, markAt, nextAt, banAt}
+use Rattle.states.specs.Tables.{markOf, entryBy, markAt, nextAt, banAt}
 use Rattle.states.proofs.Rows.{written}
 
 -- a mark is 1 exactly where the ranks are equal
@@ -59,10 +59,10 @@ module _ (ρ : Ranking) (w : Word) where
       go false = refl
 
   -- the next state by a letter's mark
-  pub next-by-mark : OneToOne ρ → Letters w → (i b : ℕ) → i ≤ length w → b < 4 → nextBy (markAt ρ w i b) i (fallen w 0 (λ s. next w s b) i) ≡ nextAt w i b
+  pub next-by-mark : OneToOne ρ → Letters w → (i b : ℕ) → i ≤ length w → b < 4 → entryBy 1 (suc i) (markAt ρ w i b) (fallen w 0 (λ s. next w s b) i) ≡ nextAt w i b
   next-by-mark one hw i b h k = rw (own-mark one hw i b k, le-leb i (length w) h) (sym (next-by-fall w i b h))
 
   -- when a letter is banned, by its mark
   pub ban-by-mark : (i b : ℕ) → i ≤ length w
-      → banBy (markAt ρ w i b) (length w - i) (fallen w never (λ s. ban w (lowBy ρ w) s b) i) ≡ banAt ρ w i b
+      → entryBy 0 (length w - i) (markAt ρ w i b) (fallen w never (λ s. ban w (lowBy ρ w) s b) i) ≡ banAt ρ w i b
   ban-by-mark i b h = rw (low-mark i b, le-leb i (length w) h) (sym (ban-by-fall w (lowBy ρ w) i b h))

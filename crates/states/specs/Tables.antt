@@ -1,13 +1,13 @@
 -- What the tables of the states of a word hold, over any ranking of the letters for each place.
 -- Assumes nothing.
-use Prim.Native.Nat.{ℕ, suc, _≤_, _<_}
+use Prim.Native.Nat.{ℕ, _*_, _≤_, _<_}
 use mathlib.Core.Bool.{cond}
-use mathlib.Core.List.{List}
+use mathlib.Core.List.{List, map}
 use mathlib.Core.Path.{_≡_}
 use lib.Dec.{ltb, leb, eqb}
-use lib.ListN.{length, getD}
+use lib.ListN.{length, getD, take, drop}
 use Rattle.definitions.specs.Lists.{tabulate}
-use Rattle.definitions.specs.Words.{Word, Letters}
+use Rattle.definitions.specs.Words.{Word, Letters, letters}
 use Rattle.laws.specs.Orders.{Ranking, OneToOne}
 use Rattle.laws.specs.States.{next}
 use Rattle.laws.specs.Bans.{never, ban, lowBy}
@@ -17,13 +17,24 @@ use Rattle.states.specs.Grids.{grid}
 abbrev pub markOf : ℕ → ℕ → ℕ
 markOf rank own = cond (ltb rank own) 0 (cond (eqb rank own) 1 2)
 
--- the state after a letter, by its mark at state i and by the state that follows from the one that i falls to
-abbrev pub nextBy : ℕ → ℕ → ℕ → ℕ
-nextBy mark i fallen = cond (eqb mark 1) (suc i) fallen
+-- what a table holds at a letter: `held` where its mark is the one asked for, else what it holds at the state that this one falls to
+abbrev pub entryBy : ℕ → ℕ → ℕ → ℕ → ℕ
+entryBy asked held mark fallen = cond (eqb mark asked) held fallen
 
--- when a letter is banned, by its mark and by when it is at the state that i falls to
-abbrev pub banBy : ℕ → ℕ → ℕ → ℕ
-banBy mark left fallen = cond (eqb mark 0) left fallen
+-- a state's row, by its marks and by the row of the state that it falls to
+abbrev pub linkedRow : ℕ → ℕ → List ℕ → List ℕ → List ℕ
+linkedRow asked held marks fallen = map (λ b. entryBy asked held (getD marks b 0) (getD fallen b 0)) letters
+
+-- the row of a state
+abbrev pub rowOf : ℕ → List ℕ → List ℕ
+rowOf i table = take 4 (drop (4 * i) table)
+
+-- what writing row i by that of another state needs
+pub record Linking (held fall i : ℕ) (table : List ℕ) : Type 0 where
+  pub small : held ≤ 32
+  pub from : fall < 32
+  pub to : i < 32
+  pub long : length table ≡ 128
 
 -- ---- the tables
 
@@ -43,6 +54,16 @@ nextAt w i b = cond (leb i (length w)) (next w i b) 0
 abbrev pub banAt : Ranking → Word → ℕ → ℕ → ℕ
 banAt ρ w i b = cond (leb i (length w)) (ban w (lowBy ρ w) i b) never
 
+-- ---- words and rankings that tables belong to
+
+-- something holds of some ranking and word
+abbrev pub Known : (Ranking → Word → Type 0) → Type 0
+Known P = (ρ : Ranking) × (w : Word) × P ρ w
+
+-- something holds of every ranking and word of which something else holds
+abbrev pub All : (Ranking → Word → Type 0) → (Ranking → Word → Type 0) → Type 0
+All P Q = (ρ : Ranking) (w : Word) → P ρ w → Q ρ w
+
 -- ---- what holds of lists that are such tables
 
 -- the special alphabets of a word of m letters
@@ -59,11 +80,3 @@ pub record AlphabetsOf (ρ : Ranking) (w : Word) (m : ℕ) (own marks : List ℕ
 pub record LinksOf (ρ : Ranking) (w : Word) (next ban : List ℕ) : Type 0 where
   pub nexts : next ≡ grid (nextAt w)
   pub bans : ban ≡ grid (banAt ρ w)
-
--- lists that are the special alphabets of some word of m letters under some ranking
-abbrev pub Alphabetic : ℕ → List ℕ → List ℕ → Type 0
-Alphabetic m own marks = (ρ : Ranking) × (w : Word) × AlphabetsOf ρ w m own marks
-
--- next states and bans that are those of every ranking and word whose special alphabets the lists are
-abbrev pub Linked : ℕ → List ℕ → List ℕ → List ℕ → List ℕ → Type 0
-Linked m own marks next ban = (ρ : Ranking) (w : Word) → AlphabetsOf ρ w m own marks → LinksOf ρ w next ban

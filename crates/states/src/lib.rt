@@ -12,14 +12,13 @@
 //                       b among them, at which that is so; NEVER where it never is. Of the tied m-mers the one that began first needs the
 //                       fewest letters more, so the longest tied state at which b ranks below decides
 ghost use mathlib.Core.Path.{_≡_};
-ghost use mathlib.Core.List.{map};
 ghost use Prim.Native.Nat.{_*_, _≤_, _<_};
-ghost use lib.ListN.{length, getD, take, drop};
+ghost use lib.ListN.{length};
 ghost use lib.Seq.{sets};
-ghost use Rattle.definitions.specs.Words.{word as wordOf, letters};
+ghost use Rattle.definitions.specs.Words.{word as wordOf};
 ghost use Rattle.laws.specs.Accepted.{ShelfAccepted};
 ghost use Rattle.laws.specs.Orders.{keyRanking};
-ghost use Rattle.states.specs.Tables.{markOf, nextBy, banBy, AlphabetsOf, Alphabetic, Linked};
+ghost use Rattle.states.specs.Tables.{rowOf, markOf, entryBy, linkedRow, Linking, Known, All, AlphabetsOf, LinksOf};
 ghost use Rattle.states.specs.Answers.{fourOf, prepareOutcome, prepared};
 
 // How a letter ranks beside w's own letter.
@@ -43,7 +42,7 @@ struct Four {
 // The row of a state.
 fn row(table: &[u8; 128], state: u64) -> Four
     requires { ⌜ (state < 32) × (length (now table) ≡ 128) ⌝ }
-    ensures { λ r. ⌜ fourOf r ≡ take 4 (drop (4 * state) (now (table .entry))) ⌝ }
+    ensures { λ r. ⌜ fourOf r ≡ rowOf state (now (table .entry)) ⌝ }
 {
     let at = (4 * state) as usize;
     Four {
@@ -111,82 +110,30 @@ fn special_alphabets(k: u64, m: u64, key: u64, word: u64) -> Alphabets
     Alphabets { own, marks }
 }
 
-// The state after a letter with such a mark: state i and one more, or what follows from the state that i falls to.
-fn next_state(mark: u8, i: u64, fallen: u8) -> u8
-    requires { ⌜ i ≤ 31 ⌝ }
-    ensures { λ r. ⌜ r ≡ nextBy mark i fallen ⌝ }
+// What a table holds at a letter: `held` where the letter has the mark that is asked for, else what it holds at the state that this one falls to.
+fn entry(asked: u8, held: u64, mark: u8, fallen: u8) -> u8
+    requires { ⌜ held ≤ 32 ⌝ }
+    ensures { λ r. ⌜ r ≡ entryBy asked held mark fallen ⌝ }
 {
-    if mark == EQUAL {
-        return (i + 1) as u8;
+    if mark == asked {
+        return held as u8;
     }
     fallen
 }
 
-// When a letter with such a mark is banned: as soon as the rest of w fits into the letters left, or as at the state that i falls to.
-fn banned_from(mark: u8, left: u64, fallen: u8) -> u8
-    requires { ⌜ left ≤ 31 ⌝ }
-    ensures { λ r. ⌜ r ≡ banBy mark left fallen ⌝ }
+// Writes the row of state i, by the marks of its letters and by the row of the state that it falls to.
+fn link(asked: u8, held: u64, marks: Four, fall: u64, i: u64, table: &mut [u8; 128])
+    requires { ⌜ Linking held fall i (now table) ⌝ }
+    ensures { λ _. ⌜ now (table .exit) ≡ sets (now (table .entry)) (4 * i) (linkedRow asked held (fourOf marks) (rowOf fall (now (table .entry)))) ⌝ }
 {
-    if mark == BELOW {
-        return left as u8;
-    }
-    fallen
-}
-
-// For each state and letter the next state, and when the letter is banned.
-struct Links {
-    next: [u8; 128],
-    ban: [u8; 128],
-}
-
-// The row of next states.
-fn next_row(marks: Four, i: u64, fallen: Four) -> Four
-    requires { ⌜ i ≤ 31 ⌝ }
-    ensures { λ r. ⌜ fourOf r ≡ map (λ b. nextBy (getD (fourOf marks) b 0) i (getD (fourOf fallen) b 0)) letters ⌝ }
-{
-    Four {
-        a: next_state(marks.a, i, fallen.a),
-        c: next_state(marks.c, i, fallen.c),
-        g: next_state(marks.g, i, fallen.g),
-        t: next_state(marks.t, i, fallen.t),
-    }
-}
-
-// The row of bans.
-fn ban_row(marks: Four, left: u64, fallen: Four) -> Four
-    requires { ⌜ left ≤ 31 ⌝ }
-    ensures { λ r. ⌜ fourOf r ≡ map (λ b. banBy (getD (fourOf marks) b 0) left (getD (fourOf fallen) b 0)) letters ⌝ }
-{
-    Four {
-        a: banned_from(marks.a, left, fallen.a),
-        c: banned_from(marks.c, left, fallen.c),
-        g: banned_from(marks.g, left, fallen.g),
-        t: banned_from(marks.t, left, fallen.t),
-    }
-}
-
-// Goes through the states from 0 to m. A state's rows follow from its marks and from the rows of the state that it falls to; state 0 falls
-// to none, and finds in its own rows what they are set to at first: no letter leads on, and none is banned.
-fn link_states(m: u64, own: &[u8; 32], marks: &[u8; 128]) -> Links
-    requires { ⌜ Alphabetic m (now own) (now marks) ⌝ }
-    ensures { λ r. ⌜ Linked m (now (own .entry)) (now (marks .entry)) (r .next) (r .ban) ⌝ }
-{
-    let mut next: [u8; 128] = [0; 128];
-    let mut ban: [u8; 128] = [NEVER; 128];
-    let mut fall: u64 = 0;
-    let mut i: u64 = 0;
-    while i <= m {
-        let here = row(marks, i);
-        let letter = own[i as usize] as u64;
-        let after = next[(4 * fall + letter) as usize] as u64;
-        let next_here = next_row(here, i, row(&next, fall));
-        let ban_here = ban_row(here, m - i, row(&ban, fall));
-        put(next_here, i, &mut next);
-        put(ban_here, i, &mut ban);
-        fall = after;
-        i += 1;
-    }
-    Links { next, ban }
+    let fallen = row(table, fall);
+    let here = Four {
+        a: entry(asked, held, marks.a, fallen.a),
+        c: entry(asked, held, marks.c, fallen.c),
+        g: entry(asked, held, marks.g, fallen.g),
+        t: entry(asked, held, marks.t, fallen.t),
+    };
+    put(here, i, table);
 }
 
 // The states of a word: the special alphabets, the next states and the bans.
@@ -195,6 +142,35 @@ pub struct States {
     pub marks: [u8; 128],
     pub next: [u8; 128],
     pub ban: [u8; 128],
+}
+
+// Goes through the states from 0 to m. A state's rows follow from its marks and from the rows of the state that it falls to; state 0 falls
+// to none, and finds in its own rows what they are set to at first: no letter leads on, and none is banned.
+fn link_states(m: u64, alphabets: Alphabets) -> States
+    requires { ⌜ Known (λ ρ w. AlphabetsOf ρ w m (alphabets .own) (alphabets .marks)) ⌝ }
+    ensures { λ r. ⌜ (r .own ≡ alphabets .own) × (r .marks ≡ alphabets .marks) × All (λ ρ w. AlphabetsOf ρ w m (alphabets .own) (alphabets .marks)) (λ ρ w. LinksOf ρ w (r .next) (r .ban)) ⌝ }
+{
+    let own = alphabets.own;
+    let marks = alphabets.marks;
+    let mut next: [u8; 128] = [0; 128];
+    let mut ban: [u8; 128] = [NEVER; 128];
+    let mut fall: u64 = 0;
+    let mut i: u64 = 0;
+    while i <= m {
+        let here = row(&marks, i);
+        let letter = own[i as usize] as u64;
+        let after = next[(4 * fall + letter) as usize] as u64;
+        link(EQUAL, i + 1, here, fall, i, &mut next);
+        link(BELOW, m - i, here, fall, i, &mut ban);
+        fall = after;
+        i += 1;
+    }
+    States {
+        own,
+        marks,
+        next,
+        ban,
+    }
 }
 
 // What preparing answers: the refusal, the states.
@@ -219,19 +195,9 @@ pub fn prepare(k: u64, m: u64, key: u64, word: u64) -> Prepared
             },
         };
     }
-    let a = special_alphabets(k, m, key, word);
-    let own = a.own;
-    let marks = a.marks;
-    let l = link_states(m, &own, &marks);
-    let next = l.next;
-    let ban = l.ban;
+    let alphabets = special_alphabets(k, m, key, word);
     Prepared {
         refusal: 0,
-        states: States {
-            own,
-            marks,
-            next,
-            ban,
-        },
+        states: link_states(m, alphabets),
     }
 }

@@ -6,29 +6,51 @@ use mathlib.Core.List.{List}
 use mathlib.Core.Logic.{_⊎_, inl, inr, ⊎-elim}
 use mathlib.Core.Path.{_≡_, refl, sym, ap, _∙_}
 use native.Mathlib.Nat.{zero-add, pow-le-pow-right}
+use native.Mathlib.Numerals.{add-one}
 use native.Mathlib.Omega.{arith}
-use borrow.Author.Tests.{ltb-true, ltb-false, le-leb, lt-leb}
-use lib.Dec.{ltb, leb}
-use lib.ListN.{length, getD, set}
+use borrow.Author.Tests.{ltb-true, ltb-false}
+use lib.Dec.{ltb}
+use lib.ListN.{getD, set}
 use Rattle.definitions.specs.Lists.{tabulate}
-use Rattle.definitions.specs.Shelves.{row}
 use Rattle.laws.specs.Tests.{leb-cong}
 use Rattle.laws.specs.Numbers.{four-pos}
-use Rattle.laws.specs.Filters.{length-tabulate, tabulate-at}
-use Rattle.laws.specs.Rooms.{overTo, overTo-more, overTo-rest}
-use Rattle.worksheets.specs.Columns.{leadsTo, AllowedBy, wayOf, sumOf, Written, RowReady, Counts}
+use Rattle.worksheets.specs.Columns.{UpTo, PowersAre, leadsTo, AllowedBy, wayOf, sumOf, Written, RowReady, FreeReady, Counts, Countable, CountedBy, Filled, Turn, TurnReady, TurnDone, Turned}
 use Rattle.worksheets.proofs.Laws.{letters-agree}
+use Rattle.worksheets.proofs.Rows.{upTo-more, upTo-none}
 
 module _ {W : ℕ → ℕ → ℕ} {m rows start follow live : ℕ} {first next ban : List ℕ} (q : Counts W m rows start follow live first next ban) where
-  -- what the ways hold after n letters: state i at place n + i, and beyond the states that live what was there at first
-  pub record Filled (n : ℕ) (ways : List ℕ) : Type 0 where
-    pub long : length ways ≡ 64
-    pub right : (i : ℕ) → i < live → i + n ≤ start + rows → getD ways (n + i) 0 ≡ W i n
-    pub rest : (p : ℕ) → n + live ≤ p → getD ways p 0 ≡ getD first p 0
+  -- the start is a state
+  pub start-low : start < 64
+  start-low = omega (arith, q .whole, q .few)
 
-  -- at first
-  pub filled-first : Filled 0 first
-  filled-first = record { long = q .longFirst; right = λ i h k. rw zero-add (q .begins i h); rest = λ p h. refl }
+  -- few letters follow
+  pub follow-low : follow < 64
+  follow-low = omega (arith, q .whole, q .few)
+
+  -- the start is not far ahead
+  pub ahead-low : start + rows < 64
+  ahead-low = omega (arith, q .whole, q .few)
+
+  module _ (n : ℕ) (h : n < rows) where
+    -- the next row is a row
+    pub row-low : n + 1 < 31
+    row-low = omega (arith, q .some, q .few)
+
+    -- its power is in the table
+    pub power-low : n + 1 < 32
+    power-low = omega (arith, q .few)
+
+    -- its number is small
+    pub row-small : n + 1 < 64
+    row-small = omega (arith, q .few)
+
+    -- few letters are left in it
+    pub left-low : n + 1 + follow < 64
+    left-low = omega (arith, q .whole, q .few)
+
+    -- the start stands in it
+    pub row-start : n + 1 + start < 64
+    row-start = omega (arith, q .whole, q .few)
 
   -- which letters are allowed changes no more once as many letters are left as w has
   bans-last : (i b left : ℕ) → i < live → b < 4 → left < 64 → ltb (min left m) (getD ban (4 * i + b) 0) ≡ ltb left (getD ban (4 * i + b) 0)
@@ -38,14 +60,14 @@ module _ {W : ℕ → ℕ → ℕ} {m rows start follow live : ℕ} {first next 
       (λ e. leb-cong (suc (min left m)) (getD ban (4 * i + b) 0) (suc left) (getD ban (4 * i + b) 0) (λ x. omega arith) (λ x. omega arith))
       (q .bans i b h f)
 
-  module _ {n : ℕ} {ways allowed : List ℕ} (s : Filled n ways) (h : suc n ≤ rows) (a : AllowedBy (min (suc n + follow) m) next ban allowed) where
+  module _ {n : ℕ} {ways allowed : List ℕ} (s : Filled W rows start live n ways) (h : suc n ≤ rows) (a : AllowedBy (min (suc n + follow) m) next ban allowed) where
     -- the states from which no m-mer can exist any more
-    abbrev pub free : ℕ
+    abbrev free : ℕ
     free = m - min m (suc n + follow)
 
     -- the states that live and that the start can still reach
-    abbrev pub needed : ℕ
-    needed = min live (start + rows + 1 - suc n)
+    abbrev needed : ℕ
+    needed = min live (start + rows - n)
 
     -- where a letter leads
     leads-is : (i b : ℕ) → i < live → b < 4 → getD allowed (4 * i + b) 0 ≡ leadsTo (suc n + follow) (getD ban (4 * i + b) 0) (getD next (4 * i + b) 0)
@@ -61,7 +83,7 @@ module _ {W : ℕ → ℕ → ℕ} {m rows start follow live : ℕ} {first next 
         go true e = s .right (getD next (4 * i + b) 0) (ltb-true (getD next (4 * i + b) 0) live e) (omega (arith, q .leads i b (omega arith) f .0))
         go false e =
             let u : live ≤ getD next (4 * i + b) 0 = ltb-false (getD next (4 * i + b) 0) live e in
-            s .rest (n + getD next (4 * i + b) 0) (omega arith) ∙ q .empty (n + getD next (4 * i + b) 0) (omega arith)
+            s .rest (n + getD next (4 * i + b) 0) (omega arith)
             ∙ sym (q .dead (getD next (4 * i + b) 0) n u (q .leads i b (omega arith) f .1))
 
     -- one way on
@@ -72,7 +94,7 @@ module _ {W : ℕ → ℕ → ℕ} {m rows start follow live : ℕ} {first next 
       where
         go : (t : Bool) → getD ways (n + cond t (getD next (4 * i + b) 0) 32) 0 ≡ cond t (W (getD next (4 * i + b) 0) n) 0
         go true = read i b k f
-        go false = s .rest (n + 32) (omega (arith, q .alive, q .few)) ∙ q .empty (n + 32) (omega (arith, q .alive, q .few))
+        go false = s .rest (n + 32) (omega (arith, q .alive, q .few))
 
     -- it is small
     way-small : (i b : ℕ) → i < needed → b < 4 → wayOf (4 * i + b) n allowed ways ≤ 4 ^ 30
@@ -94,7 +116,7 @@ module _ {W : ℕ → ℕ → ℕ} {m rows start follow live : ℕ} {first next 
         go false = inr refl
 
     -- the next row can be written
-    pub row-ready : RowReady free needed n allowed ways
+    row-ready : RowReady free needed n allowed ways
     row-ready =
         record {
           longAllowed = a .long;
@@ -121,7 +143,7 @@ module _ {W : ℕ → ℕ → ℕ} {m rows start follow live : ℕ} {first next 
                 ∙ sym (q .step i n k h)
 
         -- the next row is filled
-        pub filled-next : Filled (suc n) after
+        filled-next : Filled W rows start live (suc n) after
         filled-next =
             record {
               long = v .long ∙ u .long ∙ s .long;
@@ -129,47 +151,101 @@ module _ {W : ℕ → ℕ → ℕ} {m rows start follow live : ℕ} {first next 
               rest = λ p k. v .outside p (inr (omega (arith, q .whole, q .within))) ∙ u .outside p (inr (omega arith)) ∙ s .rest p (omega arith);
             }
 
-  -- ---- the rows that are written
+-- ---- one turn
 
-  -- the column that is wanted
-  abbrev wanted : List ℕ
-  wanted = tabulate (λ a. row (leb a rows) (W start) a) 31
+module _ {W : ℕ → ℕ → ℕ} {first next ban : List ℕ} {m rows start follow live n : ℕ} {allowed ways : List ℕ} (t : Turn W first next ban m rows start follow live n allowed ways) where
+  -- the rows that are done are not ahead of the start
+  pub turn-back : n ≤ start + rows
+  turn-back = omega (arith, t .more)
 
-  -- a column of zeros
-  abbrev zeros : List ℕ
-  zeros = tabulate (λ a. 0) 31
+  module _ {low needed : ℕ} (e : low ≡ min m (n + 1 + follow)) (f : needed ≡ min live (start + rows - n)) where
+    -- the states in which no m-mer can exist any more are states
+    pub turn-low : low ≤ m
+    turn-low = omega arith
 
-  -- after n letters: the ways, and the rows up to n
-  pub record Reached (n : ℕ) (ways column : List ℕ) : Type 0 where
-    pub filled : Filled n ways
-    pub written : column ≡ overTo (suc n) wanted zeros
+    -- the row can be written
+    pub turn-ready : RowReady (m - low) needed n allowed ways
+    turn-ready = rw (e, f, add-one) (row-ready (t .counts) (t .filled) (t .more) (t .lets))
 
-  -- the start's ways are the row
-  row-is : (n : ℕ) {ways : List ℕ} → n ≤ rows → Filled n ways → getD ways (n + start) 0 ≡ getD wanted n 0
-  row-is n h s =
-      s .right start (q .within) (omega arith)
-      ∙ sym (tabulate-at (λ a. row (leb a rows) (W start) a) 31 n 0 (omega (arith, q .few, q .some))
-      ∙ ap (λ (t : Bool). row t (W start) n) (le-leb n rows h))
+    module _ {mid : List ℕ} (u : Written (m - low) needed (suc n) (λ i. sumOf i n allowed ways) ways mid) where
+      -- and those states
+      pub turn-free : FreeReady (m - low) (n + 1) mid
+      turn-free = record { longWays = u .long ∙ t .filled .long; fits = omega (arith, t .counts .few, t .more) }
 
-  -- at first
-  pub reached-first : Reached 0 first (set zeros 0 (getD first start 0))
-  reached-first =
+      module _ {powers after : List ℕ} (p : PowersAre powers) (v : Written 0 (m - low) (n + 1) (λ i. getD powers (n + 1) 0) mid after) where
+        -- then it is written
+        turn-filled : Filled W rows start live (suc n) after
+        turn-filled =
+            filled-next (t .counts) (t .filled) (t .more) (t .lets) (rw (e, f, add-one) at u) (rw (e, add-one, p .each (suc n) (omega (arith, t .counts .few, t .more))) at v)
+
+        -- and the start's ways can be read
+        pub turn-done : {r : ℕ} → r ≡ getD after (n + 1 + start) 0 → TurnDone W rows start live n after r
+        turn-done q =
+            record {
+              filled = turn-filled;
+              begun = q ∙ ap (λ (x : ℕ). getD after (x + start) 0) (add-one n) ∙ turn-filled .right start (t .counts .within) (omega (arith, t .more));
+            }
+
+-- ---- the rows that are written
+
+-- after n letters: the ways, and the rows up to n
+pub record Reached (W : ℕ → ℕ → ℕ) (rows start live n : ℕ) (ways column : List ℕ) : Type 0 where
+  pub filled : Filled W rows start live n ways
+  pub written : UpTo 31 (suc n) (W start) column
+
+-- after n of the rows: which letters are allowed, and what is reached, whatever ways are counted
+pub record Going (m rows start follow live : ℕ) (first next ban : List ℕ) (n : ℕ) (ways column allowed : List ℕ) : Type 0 where
+  pub most : n ≤ rows
+  pub lets : AllowedBy (min (n + follow) m) next ban allowed
+  pub reached : (W : ℕ → ℕ → ℕ) → Counts W m rows start follow live first next ban → Reached W rows start live n ways column
+
+module _ {m rows start follow live : ℕ} {first next ban : List ℕ} where
+  -- at first the ways are those by no letter, and the first row is written
+  pub going-first : Countable m rows start follow live first next ban → {allowed : List ℕ} → AllowedBy follow next ban allowed
+      → Going m rows start follow live first next ban 0 first (set (tabulate (λ a. 0) 31) 0 (getD first start 0)) allowed
+  going-first known a =
+      let least : min (0 + follow) m ≡ follow = omega (arith, known .1 .whole) in
       record {
-        filled = filled-first;
-        written = overTo-more wanted zeros {i = 0} 0 refl (ap (λ (p : ℕ). getD first p 0) (sym (zero-add start)) ∙ row-is 0 (omega arith) filled-first)
-            (rw length-tabulate (omega arith)) (rw length-tabulate (omega arith));
+        most = omega arith;
+        lets = rw least a;
+        reached =
+            λ W q. record {
+              filled = record { long = q .begins .long; right = λ i h k. rw zero-add (q .begins .below i h); rest = λ p h. q .begins .above p (omega arith) };
+              written = upTo-more (upTo-none 31 (W start)) (omega arith) (q .begins .below start (q .within));
+            };
       }
 
-  -- one more row
-  pub reached-next : {n : ℕ} {ways column : List ℕ} (s : Reached n ways column) → suc n ≤ rows → {after : List ℕ} → Filled (suc n) after
-      → Reached (suc n) after (set column (suc n) (getD after (suc n + start) 0))
-  reached-next {n} s h u =
-      record {
-        filled = u;
-        written = overTo-more wanted zeros 0 (s .written) (row-is (suc n) h u) (rw length-tabulate (omega (arith, q .few))) (rw length-tabulate (omega (arith, q .few)));
-      }
+  module _ {n : ℕ} {ways column allowed : List ℕ} (g : Going m rows start follow live first next ban n ways column allowed) where
+    -- the table of allowed letters is made anew
+    pub lets-anew : {made now : List ℕ} → now ≡ made → n + 1 + follow ≤ m → AllowedBy (n + 1 + follow) next ban made → AllowedBy (min (suc n + follow) m) next ban now
+    lets-anew e h a = let few : min (suc n + follow) m ≡ n + 1 + follow = omega arith in rw (e, few) a
 
-  -- all rows are written
-  pub reached-all : {ways column : List ℕ} → Reached rows ways column → column ≡ wanted
-  reached-all s =
-      s .written ∙ overTo-rest (λ a. row (leb a rows) (W start) a) (λ a. 0) 31 (suc rows) (λ a h k. sym (ap (λ (t : Bool). row t (W start) a) (lt-leb a rows h)))
+    -- or kept
+    pub lets-kept : {now : List ℕ} → now ≡ allowed → m < n + 1 + follow → AllowedBy (min (suc n + follow) m) next ban now
+    lets-kept e h = let still : min (suc n + follow) m ≡ min (n + follow) m = omega arith in rw (e, still) (g .lets)
+
+    module _ (h : n < rows) {now : List ℕ} (a : AllowedBy (min (suc n + follow) m) next ban now) where
+      -- the next row is to be written
+      turn-of : (W : ℕ → ℕ → ℕ) → Counts W m rows start follow live first next ban → Turn W first next ban m rows start follow live n now ways
+      turn-of W q = record { counts = q; lets = a; filled = g .reached W q .filled; more = h }
+
+      -- for some ways it is
+      pub going-turn : Countable m rows start follow live first next ban → TurnReady m rows start follow live n now ways
+      going-turn known = (known .0, first, next, ban, turn-of (known .0) (known .1))
+
+      -- one row more is written
+      pub going-next : {after : List ℕ} {r : ℕ} → Turned m rows start follow live n now ways after r
+          → Going m rows start follow live first next ban (n + 1) after (set column (n + 1) r) now
+      going-next t =
+          rw add-one (record {
+            most = h;
+            lets = a;
+            reached =
+                λ W q.
+                let done = t W first next ban (turn-of W q) in
+                record { filled = done .filled; written = upTo-more (g .reached W q .written) (omega (arith, q .few, q .some)) (done .begun) };
+          })
+
+    -- all rows are written
+    pub going-all : rows ≤ n → CountedBy m rows start follow live first next ban column
+    going-all h W q = let e : n ≡ rows = omega (arith, g .most) in rw e at (g .reached W q .written)

@@ -1,22 +1,25 @@
--- What stands at a place of the tables of the states of a word, and sums over the letters.
+-- What stands at a place of the tables of the states of a word, sums over the letters, and numbers that fit.
 -- Assumes nothing.
-use Prim.Native.Nat.{ℕ, _+_, _*_, _≤_, _<_}
-use mathlib.Core.Bool.{Bool, cond}
+use Prim.Native.Nat.{ℕ, _+_, _-_, _*_, _^_, _≤_, _<_}
+use mathlib.Core.Bool.{Bool, true, false, cond}
 use mathlib.Core.List.{List, map}
 use mathlib.Core.Path.{_≡_, ap, _∙_}
 use native.Mathlib.Omega.{arith}
+use mir.Syntax.{w64}
+use mir.Val.{Fits}
 use borrow.Author.Tests.{lt-ltb, le-ltb, le-leb}
+use lib.Dec.{ltb, eqb}
 use lib.ListN.{length, getD}
-use Rattle.definitions.specs.Lists.{total}
+use Rattle.definitions.specs.Lists.{tabulate, total}
 use Rattle.definitions.specs.Words.{Word, letters}
 use Rattle.laws.specs.Numbers.{letter-lt}
 use Rattle.laws.specs.Filters.{tabulate-at}
 use Rattle.laws.specs.Orders.{Ranking}
-use Rattle.laws.specs.States.{next}
+use Rattle.laws.specs.States.{next, next-le}
 use Rattle.laws.specs.Bans.{never, ban, lowBy, ban-own, ban-le}
-use Rattle.states.specs.Grids.{grid-at}
+use Rattle.states.specs.Grids.{grid, grid-at}
 use Rattle.states.specs.Tables.{AlphabetsOf, markOf, markAt, nextAt, banAt}
-use Rattle.worksheets.specs.Columns.{StatesOf}
+use Rattle.worksheets.specs.Columns.{LettersOf, BansOf, MovesOf, NextsOf, StatesOf, entryOf, EntryReady, PowersAre}
 
 -- ---- sums
 
@@ -24,55 +27,143 @@ use Rattle.worksheets.specs.Columns.{StatesOf}
 pub letters-agree : (f g : ℕ → ℕ) → ((b : ℕ) → b < 4 → f b ≡ g b) → total (map f letters) ≡ total (map g letters)
 letters-agree f g h = rw (h 0 (omega arith), h 1 (omega arith), h 2 (omega arith), h 3 (omega arith))
 
+-- ---- numbers that fit
+
+-- a small number fits
+pub fits-small : {x : ℕ} → x < 64 → Fits w64 x
+fits-small h = omega arith
+
+-- so does the place of an entry of eight bytes
+pub fits-place : {x : ℕ} → x < 64 → Fits w64 (x * 8)
+fits-place h = omega arith
+
+-- and the number after it
+pub fits-next : {x : ℕ} → x < 64 → Fits w64 (x + 1)
+fits-next h = omega arith
+
+-- the number after one that is below another
+pub one-le : {i n : ℕ} → i < n → i + 1 ≤ n
+one-le h = omega arith
+
+-- what is left gets less
+pub left-less : {i n : ℕ} → i < n → n - (i + 1) < n - i
+left-less h = omega arith
+
+-- ---- the powers
+
+-- the table of powers
+pub powers-are : {powers : List ℕ} → powers ≡ tabulate (λ n. 4 ^ n) 32 → PowersAre powers
+powers-are e = record { each = λ n h. ap (λ (l : List ℕ). getD l n 0) e ∙ tabulate-at (λ i. 4 ^ i) 32 n 0 h }
+
 -- ---- the tables
 
-module _ {ρ : Ranking} {w : Word} {m : ℕ} {own marks : List ℕ} (a : AlphabetsOf ρ w m own marks) where
+-- what the states of a word say of fewer tables
+module _ {ρ : Ranking} {w : Word} {m : ℕ} {own : List ℕ} where
+  -- w's own letters, of the special alphabets
+  pub own-letters : {marks : List ℕ} → AlphabetsOf ρ w m own marks → LettersOf w m own
+  own-letters a = record { letters = a .letters; long = a .long; some = a .some; few = a .few; owns = a .owns }
+
+  -- the bans, of where letters lead and are banned
+  pub moves-bans : {nexts bans : List ℕ} → MovesOf ρ w m own nexts bans → BansOf ρ w m own bans
+  moves-bans s = record { word = s .word; bans = s .links .bans }
+
+  module _ {marks nexts bans : List ℕ} (s : StatesOf ρ w m own marks nexts bans) where
+    -- where letters lead and are banned
+    pub states-moves : MovesOf ρ w m own nexts bans
+    states-moves = record { one = s .alphabets .one; word = own-letters (s .alphabets); links = s .links }
+
+    -- when they are banned
+    pub states-bans : BansOf ρ w m own bans
+    states-bans = moves-bans states-moves
+
+    -- where they lead
+    pub states-nexts : NextsOf ρ w m own marks nexts
+    states-nexts = record { alphabets = s .alphabets; nexts = s .links .nexts }
+
+module _ {w : Word} {m : ℕ} {own : List ℕ} (l : LettersOf w m own) where
   -- w's own letter stands at its place
-  pub own-at : (p : ℕ) → p < 32 → getD own p 0 ≡ getD w p 0
-  own-at p h = ap (λ (l : List ℕ). getD l p 0) (a .owns) ∙ tabulate-at (λ q. getD w q 0) 32 p 0 h
+  own-at : (p : ℕ) → p < 32 → getD own p 0 ≡ getD w p 0
+  own-at p h = ap (λ (x : List ℕ). getD x p 0) (l .owns) ∙ tabulate-at (λ q. getD w q 0) 32 p 0 h
 
   -- what stands there is a letter
-  pub own-lt : (p : ℕ) → p < 32 → getD own p 0 < 4
-  own-lt p h = rw (own-at p h) (letter-lt w p (a .letters))
+  own-lt : (p : ℕ) → p < 32 → getD own p 0 < 4
+  own-lt p h = rw (own-at p h) (letter-lt w p (l .letters))
 
-  -- the mark of a letter at a place of w
-  pub mark-at : (p b : ℕ) → p < m → b < 4 → getD marks (4 * p + b) 0 ≡ markOf (ρ p b) (ρ p (getD w p 0))
-  mark-at p b h k =
-      ap (λ (l : List ℕ). getD l (4 * p + b) 0) (a .ranks)
-      ∙ grid-at (markAt ρ w) p b (omega (arith, a .few)) k
-      ∙ ap (λ (t : Bool). cond t (markOf (ρ p b) (ρ p (getD w p 0))) 2) (lt-ltb p (length w) (omega (arith, a .long)))
+  -- an entry for w's own letter
+  own-entry : (table : List ℕ) (i p : ℕ) → p < 32 → entryOf i p own table ≡ getD table (4 * i + getD w p 0) 0
+  own-entry table i p h = ap (λ (b : ℕ). getD table (4 * i + b) 0) (own-at p h)
 
-module _ {ρ : Ranking} {w : Word} {m : ℕ} {own marks nexts bans : List ℕ} (s : StatesOf ρ w m own marks nexts bans) where
+  -- an entry can be read where it is small
+  entry-ready : {table : List ℕ} {v : ℕ} (i p : ℕ) → i < 32 → p < 32 → entryOf i p own table ≡ v → v < 256 → EntryReady i p own table
+  entry-ready i p h k e f = record { inside = h; place = k; letter = own-lt p k; byte = omega (arith, e) }
+
   -- the next state by a letter
-  pub next-at : (i b : ℕ) → i ≤ m → b < 4 → getD nexts (4 * i + b) 0 ≡ next w i b
-  next-at i b h k =
-      ap (λ (l : List ℕ). getD l (4 * i + b) 0) (s .links .nexts)
-      ∙ grid-at (nextAt w) i b (omega (arith, s .alphabets .few)) k
-      ∙ ap (λ (t : Bool). cond t (next w i b) 0) (le-leb i (length w) (omega (arith, s .alphabets .long)))
+  pub next-at : {nexts : List ℕ} → nexts ≡ grid (nextAt w) → (i b : ℕ) → i ≤ m → b < 4 → getD nexts (4 * i + b) 0 ≡ next w i b
+  next-at e i b h k =
+      ap (λ (x : List ℕ). getD x (4 * i + b) 0) e
+      ∙ grid-at (nextAt w) i b (omega (arith, l .few)) k
+      ∙ ap (λ (t : Bool). cond t (next w i b) 0) (le-leb i (length w) (omega (arith, l .long)))
 
+module _ {ρ : Ranking} {w : Word} {m : ℕ} {own marks : List ℕ} (a : AlphabetsOf ρ w m own marks) (i j : ℕ) (h : i + j < m) where
+  -- the mark, at a place further on, of w's own letter
+  pub own-mark : entryOf (i + j) j own marks ≡ markOf (ρ (i + j) (getD w j 0)) (ρ (i + j) (getD w (i + j) 0))
+  own-mark =
+      own-entry (own-letters a) marks (i + j) j (omega (arith, a .few))
+      ∙ ap (λ (x : List ℕ). getD x (4 * (i + j) + getD w j 0) 0) (a .ranks)
+      ∙ grid-at (markAt ρ w) (i + j) (getD w j 0) (omega (arith, a .few)) (letter-lt w j (a .letters))
+      ∙ ap (λ (t : Bool). cond t (markOf (ρ (i + j) (getD w j 0)) (ρ (i + j) (getD w (i + j) 0))) 2) (lt-ltb (i + j) (length w) (omega (arith, a .long)))
+
+  -- it can be read
+  pub mark-ready : EntryReady (i + j) j own marks
+  mark-ready =
+      entry-ready (own-letters a) (i + j) j (omega (arith, a .few)) (omega (arith, a .few)) own-mark
+      (go (ltb (ρ (i + j) (getD w j 0)) (ρ (i + j) (getD w (i + j) 0))) (eqb (ρ (i + j) (getD w j 0)) (ρ (i + j) (getD w (i + j) 0))))
+    where
+      go : (s t : Bool) → cond s 0 (cond t 1 2) < 256
+      go true t = omega arith
+      go false true = omega arith
+      go false false = omega arith
+
+module _ {ρ : Ranking} {w : Word} {m : ℕ} {own marks nexts : List ℕ} (s : NextsOf ρ w m own marks nexts) (i p : ℕ) (h : i ≤ m) (k : p < m) where
+  -- where w's own letter leads
+  pub own-next : entryOf i p own nexts ≡ next w i (getD w p 0)
+  own-next =
+      own-entry (own-letters (s .alphabets)) nexts i p (omega (arith, s .alphabets .few))
+      ∙ next-at (own-letters (s .alphabets)) (s .nexts) i (getD w p 0) h (letter-lt w p (s .alphabets .letters))
+
+  -- it can be read
+  pub next-ready : EntryReady i p own nexts
+  next-ready =
+      entry-ready (own-letters (s .alphabets)) i p (omega (arith, s .alphabets .few)) (omega (arith, s .alphabets .few)) own-next
+      (omega (arith, next-le w i (getD w p 0), s .alphabets .few))
+
+module _ {ρ : Ranking} {w : Word} {m : ℕ} {own bans : List ℕ} (s : BansOf ρ w m own bans) where
   -- the fewest letters left at which a letter is banned
   pub ban-at : (i b : ℕ) → i ≤ m → b < 4 → getD bans (4 * i + b) 0 ≡ ban w (lowBy ρ w) i b
   ban-at i b h k =
-      ap (λ (l : List ℕ). getD l (4 * i + b) 0) (s .links .bans)
-      ∙ grid-at (banAt ρ w) i b (omega (arith, s .alphabets .few)) k
-      ∙ ap (λ (t : Bool). cond t (ban w (lowBy ρ w) i b) 64) (le-leb i (length w) (omega (arith, s .alphabets .long)))
+      ap (λ (x : List ℕ). getD x (4 * i + b) 0) (s .bans)
+      ∙ grid-at (banAt ρ w) i b (omega (arith, s .word .few)) k
+      ∙ ap (λ (t : Bool). cond t (ban w (lowBy ρ w) i b) 64) (le-leb i (length w) (omega (arith, s .word .long)))
 
-  -- the fewest letters left at which w's own letter is banned
-  pub own-ban : (j : ℕ) → j < m → getD bans (4 * j + getD own j 0) 0 ≡ ban w (lowBy ρ w) j (getD w j 0)
-  own-ban j h =
-      ap (λ (b : ℕ). getD bans (4 * j + b) 0) (own-at (s .alphabets) j (omega (arith, s .alphabets .few)))
-      ∙ ban-at j (getD w j 0) (omega arith) (letter-lt w j (s .alphabets .letters))
+  module _ (j : ℕ) (h : j < m) where
+    -- the fewest letters left at which w's own letter is banned
+    pub own-ban : entryOf j j own bans ≡ ban w (lowBy ρ w) j (getD w j 0)
+    own-ban = own-entry (s .word) bans j j (omega (arith, s .word .few)) ∙ ban-at j (getD w j 0) (omega arith) (letter-lt w j (s .word .letters))
 
-  -- they are more than the rest of w
-  pub own-later : (j : ℕ) → j < m → m < ban w (lowBy ρ w) j (getD w j 0) + j
-  own-later j h =
-      omega (
-        arith,
-        s .alphabets .long,
-        ban-own w (lowBy ρ w) j (omega (arith, s .alphabets .long, s .alphabets .few)) (omega (arith, s .alphabets .long))
-            (le-ltb (ρ j (getD w j 0)) (ρ j (getD w j 0)) (omega arith)),
-      )
+    -- they are more than the rest of w
+    pub own-later : m < ban w (lowBy ρ w) j (getD w j 0) + j
+    own-later =
+        omega (
+          arith,
+          s .word .long,
+          ban-own w (lowBy ρ w) j (omega (arith, s .word .long, s .word .few)) (omega (arith, s .word .long))
+              (le-ltb (ρ j (getD w j 0)) (ρ j (getD w j 0)) (omega arith)),
+        )
 
-  -- and at most never
-  pub own-never : (j : ℕ) → ban w (lowBy ρ w) j (getD w j 0) ≤ never
-  own-never j = ban-le w (lowBy ρ w) j (getD w j 0) (omega (arith, s .alphabets .long, s .alphabets .few))
+    -- and at most never
+    pub own-never : ban w (lowBy ρ w) j (getD w j 0) ≤ never
+    own-never = ban-le w (lowBy ρ w) j (getD w j 0) (omega (arith, s .word .long, s .word .few))
+
+    -- they can be read
+    pub ban-ready : EntryReady j j own bans
+    ban-ready = entry-ready (s .word) j j (omega (arith, s .word .few)) (omega (arith, s .word .few)) own-ban (omega (arith, own-never))

@@ -6,24 +6,23 @@ use mathlib.Core.Bool.{Bool, true, false, cond, _&&_}
 use mathlib.Core.List.{List, [], _∷_, map}
 use mathlib.Core.Logic.{_⊎_, inl, inr}
 use mathlib.Core.Path.{_≡_, refl, sym, ap, ap₂, fun-ext, _∙_}
-use native.Mathlib.Nat.{zero-add, add-zero}
+use native.Mathlib.Nat.{add-zero}
 use native.Mathlib.Omega.{arith}
 use borrow.Author.Tests.{ltb-true, ltb-false, leb-true, eqb-true, lt-ltb, le-ltb, le-leb}
 use lib.Dec.{ltb, leb, eqb}
-use lib.ListN.{length, getD, List·getD-eq-default}
-use Rattle.definitions.specs.Lists.{tabulate, total}
+use lib.ListN.{length, getD}
+use Rattle.definitions.specs.Lists.{total}
 use Rattle.definitions.specs.Words.{Word, letters}
-use Rattle.definitions.specs.Shelves.{row, antemers, postmers, column}
+use Rattle.definitions.specs.Shelves.{row, antemers, postmers}
 use Rattle.laws.specs.Tests.{and-l, and-r, and-i, test-ext, leb-cong}
-use Rattle.laws.specs.Filters.{length-tabulate, tabulate-at, tabulate-agree}
 use Rattle.laws.specs.Walks.{ways-le}
 use Rattle.laws.specs.Orders.{Ranking, ranked}
 use Rattle.laws.specs.States.{matches, first, next, longest-matches, longest-le, next-le}
 use Rattle.laws.specs.Tables.{antemerOk, antemerEnd, antemerWays, postmerOk, postmerEnd, postmerWays, ways-free, antemers-table, postmers-table, postmer-end, antemer-stop}
 use Rattle.laws.specs.Bans.{never, ban, ban-le, ban-most, lowBy, lasts, antemer-row, postmer-row, word-allowed}
-use Rattle.states.specs.Tables.{AlphabetsOf}
-use Rattle.worksheets.specs.Columns.{StatesOf, ReachIs, EndsAre, LastsIs, endWays, Written, Counts}
-use Rattle.worksheets.proofs.Laws.{letters-agree, next-at, ban-at, own-later}
+use Rattle.worksheets.specs.Columns.{LettersOf, BansOf, MovesOf, UpTo, ReachIs, EndsAre, LastsIs, endWays, Counts, AntemersAre, PostmersAre}
+use Rattle.worksheets.proofs.Laws.{letters-agree, moves-bans, next-at, ban-at, own-later}
+use Rattle.worksheets.proofs.Rows.{upTo-column}
 
 -- the ways to complete a state below so many to an antemer by n letters; from the others there are none
 abbrev pub liveWays : Ranking → Word → ℕ → ℕ → ℕ → ℕ
@@ -102,25 +101,22 @@ live-small ρ w live i n = go (ltb i live)
     go false = omega arith
 
 -- the ends are the ways by no letter
-live-begins : (ρ : Ranking) (w : Word) (live i : ℕ) → i < live → endWays ρ w live i ≡ liveWays ρ w live i 0
-live-begins ρ w live i h =
-    ap (λ (t : Bool). cond (t && antemerEnd ρ w i) 1 0) (lt-ltb i live h) ∙ sym (ap (λ (t : Bool). cond t (antemerWays ρ w i 0) 0) (lt-ltb i live h))
-
--- entries that are 0 from a place on stay 0 past the end
-zero-from : (f : ℕ → ℕ) (n low p : ℕ) → ((i : ℕ) → low ≤ i → f i ≡ 0) → low ≤ p → getD (tabulate f n) p 0 ≡ 0
-zero-from f n low p z h = go (ltb p n) refl
-  where
-    go : (t : Bool) → ltb p n ≡ t → getD (tabulate f n) p 0 ≡ 0
-    go true q = tabulate-at f n p 0 (ltb-true p n q) ∙ z p h
-    go false q = List·getD-eq-default (tabulate f n) 0 (rw length-tabulate (ltb-false p n q))
-
--- from `live` on there are none
-live-ends : (ρ : Ranking) (w : Word) (live p : ℕ) → live ≤ p → getD (tabulate (endWays ρ w live) 64) p 0 ≡ 0
-live-ends ρ w live p h = zero-from (endWays ρ w live) 64 live p (λ i k. ap (λ (t : Bool). cond (t && antemerEnd ρ w i) 1 0) (le-ltb i live k)) h
+live-begins : (ρ : Ranking) (w : Word) (live i : ℕ) → i < live → endWays ρ w i ≡ liveWays ρ w live i 0
+live-begins ρ w live i h = sym (ap (λ (t : Bool). cond t (antemerWays ρ w i 0) 0) (lt-ltb i live h))
 
 -- ---- counting
 
-module _ {ρ : Ranking} {w : Word} {m : ℕ} {own marks nexts bans : List ℕ} (s : StatesOf ρ w m own marks nexts bans) where
+module _ {ρ : Ranking} {w : Word} {m : ℕ} {own bans : List ℕ} (s : BansOf ρ w m own bans) where
+  -- the first letters of w are allowed in some row
+  first-some : (j : ℕ) → j ≤ m → 0 < lasts w (lowBy ρ w) j
+  first-some zero h = omega arith
+  first-some (suc j) h = omega (arith, first-some j (omega arith), own-later s j h, s .word .long)
+
+  -- w is allowed in some row
+  pub lasts-some : {last : ℕ} → LastsIs ρ w last → 0 < last
+  lasts-some e = omega (arith, e, first-some (length w) (omega (arith, s .word .long)))
+
+module _ {ρ : Ranking} {w : Word} {m : ℕ} {own nexts bans : List ℕ} (s : MovesOf ρ w m own nexts bans) where
   -- there are 128 next states
   long-next : length nexts ≡ 128
   long-next = ap length (s .links .nexts)
@@ -132,17 +128,17 @@ module _ {ρ : Ranking} {w : Word} {m : ℕ} {own marks nexts bans : List ℕ} (
   -- a next state is at most one more, and at most m
   next-low : (i b : ℕ) → i ≤ m → b < 4 → (getD nexts (4 * i + b) 0 ≤ suc i) × (getD nexts (4 * i + b) 0 ≤ m)
   next-low i b h k =
-      let e = next-at s i b h k in
-      (omega (arith, e, next-le w i b), omega (arith, e, s .alphabets .long, longest-le w (length w) (b ∷ first w i)))
+      let e = next-at (s .word) (s .links .nexts) i b h k in
+      (omega (arith, e, next-le w i b), omega (arith, e, s .word .long, longest-le w (length w) (b ∷ first w i)))
 
   -- a ban is at most m, or never
   ban-low : (i b : ℕ) → i ≤ m → b < 4 → (getD bans (4 * i + b) 0 ≤ m) ⊎ (getD bans (4 * i + b) 0 ≡ never)
-  ban-low i b h k = rw (ban-at s i b h k) (go (ltb (ban w (lowBy ρ w) i b) never) refl)
+  ban-low i b h k = rw (ban-at (moves-bans s) i b h k) (go (ltb (ban w (lowBy ρ w) i b) never) refl)
     where
       go : (t : Bool) → ltb (ban w (lowBy ρ w) i b) never ≡ t → (ban w (lowBy ρ w) i b ≤ m) ⊎ (ban w (lowBy ρ w) i b ≡ never)
-      go true e = inl (omega (arith, s .alphabets .long, ban-most w (lowBy ρ w) i b (ltb-true (ban w (lowBy ρ w) i b) never e)))
+      go true e = inl (omega (arith, s .word .long, ban-most w (lowBy ρ w) i b (ltb-true (ban w (lowBy ρ w) i b) never e)))
       go false e =
-          inr (omega (arith, ltb-false (ban w (lowBy ρ w) i b) never e, ban-le w (lowBy ρ w) i b (omega (arith, s .alphabets .long, s .alphabets .few))))
+          inr (omega (arith, ltb-false (ban w (lowBy ρ w) i b) never e, ban-le w (lowBy ρ w) i b (omega (arith, s .word .long, s .word .few))))
 
   -- a sum over the letters, by the tables
   by-tables : (W : ℕ → ℕ → ℕ) (i n left left′ : ℕ) → i ≤ m → left ≡ left′
@@ -150,16 +146,7 @@ module _ {ρ : Ranking} {w : Word} {m : ℕ} {own marks nexts bans : List ℕ} (
       ≡ total (map (λ b. cond (ltb left′ (getD bans (4 * i + b) 0)) (W (getD nexts (4 * i + b) 0) n) 0) letters)
   by-tables W i n left left′ h e =
       letters-agree (λ b. cond (ltb left (ban w (lowBy ρ w) i b)) (W (next w i b) n) 0) (λ b. cond (ltb left′ (getD bans (4 * i + b) 0)) (W (getD nexts (4 * i + b) 0) n) 0)
-      (λ b k. rw (ban-at s i b h k, next-at s i b h k, e))
-
-  -- the first letters of w are allowed in some row
-  first-some : (j : ℕ) → j ≤ m → 0 < lasts w (lowBy ρ w) j
-  first-some zero h = omega arith
-  first-some (suc j) h = omega (arith, first-some j (omega arith), own-later s j h, s .alphabets .long)
-
-  -- w is allowed in some row
-  pub lasts-some : {last : ℕ} → LastsIs ρ w last → 0 < last
-  lasts-some e = omega (arith, e, first-some (length w) (omega (arith, s .alphabets .long)))
+      (λ b k. rw (ban-at (moves-bans s) i b h k, next-at (s .word) (s .links .nexts) i b h k, e))
 
   module _ (k : ℕ) (h : m ≤ k) (f : k ≤ 31) where
     -- the antemers are counted from state 0, with w to follow; from the states from `live` on there is no way
@@ -171,15 +158,12 @@ module _ {ρ : Ranking} {w : Word} {m : ℕ} {own marks nexts bans : List ℕ} (
           whole = omega arith;
           within = c .some;
           alive = omega (arith, low);
-          longFirst = ap length e;
           longNext = long-next;
           longBan = long-ban;
           bans = λ i b q p. ban-low i b (omega (arith, low)) p;
           leads = λ i b q p. next-low i b (omega (arith, low)) p;
-          begins =
-              λ i q. ap (λ (l : List ℕ). getD l i 0) e ∙ tabulate-at (endWays ρ w live) 64 i 0 (omega (arith, low)) ∙ live-begins ρ w live i q;
+          begins = record { long = e .long; below = λ i q. e .below i q ∙ live-begins ρ w live i q; above = e .above };
           dead = λ i n p q. ap (λ (t : Bool). cond t (antemerWays ρ w i n) 0) (le-ltb i live p);
-          empty = λ p l. ap (λ (x : List ℕ). getD x p 0) e ∙ live-ends ρ w live p l;
           step =
               λ i n p q. live-row c i n p (omega (arith, a .long))
               ∙ by-tables (liveWays ρ w live) i n (suc (n + length w)) (suc n + m) (omega (arith, low)) (omega (arith, a .long));
@@ -187,56 +171,57 @@ module _ {ρ : Ranking} {w : Word} {m : ℕ} {own marks nexts bans : List ℕ} (
           small = live-small ρ w live;
         }
       where
-        a : AlphabetsOf ρ w m own marks
-        a = s .alphabets
+        a : LettersOf w m own
+        a = s .word
 
         low : live ≤ m
         low = omega (arith, c .most, a .long)
 
     -- the postmers are counted from state m, with nothing to follow, in the rows in which w is allowed
-    pub postmer-side : {last : ℕ} {ones : List ℕ} → LastsIs ρ w last → Written 0 (suc m) 0 (λ i. 1) (tabulate (λ i. 0) 64) ones
-        → Counts (postmerWays ρ w) m (min (k - m) (last - 1)) m 0 (suc m) ones nexts bans
-    postmer-side {last} e o =
+    pub postmer-side : {rows last : ℕ} {ones : List ℕ} → rows ≡ min (k - m) (last - 1) → LastsIs ρ w last → UpTo 64 (m + 1) (λ i. 1) ones
+        → Counts (postmerWays ρ w) m rows m 0 (m + 1) ones nexts bans
+    postmer-side r e o =
         record {
           some = a .some;
           few = omega arith;
           whole = omega arith;
           within = omega arith;
           alive = omega arith;
-          longFirst = o .long;
           longNext = long-next;
           longBan = long-ban;
           bans = λ i b q p. ban-low i b (omega arith) p;
           leads = λ i b q p. next-low i b (omega arith) p;
-          begins = λ i q. rw zero-add at (o .inside i (omega arith) q) ∙ sym (ap (λ (t : Bool). cond t 1 0) (postmer-end ρ w (omega (arith, a .long, a .some)) i));
+          begins =
+              record {
+                long = o .long;
+                below = λ i q. o .below i q ∙ sym (ap (λ (t : Bool). cond t 1 0) (postmer-end ρ w (omega (arith, a .long, a .some)) i));
+                above = o .above;
+              };
           dead = λ i n p q. absurd (omega arith);
-          empty = λ p q. o .outside p (inr (omega arith)) ∙ zero-from (λ i. 0) 64 (suc m) p (λ i r. refl) q;
           step = λ i n p q. postmer-row ρ w i n (omega arith) ∙ by-tables (postmerWays ρ w) i n (suc n) (suc n + 0) (omega arith) (sym (add-zero (suc n)));
           free = λ i n p. ways-free ρ w false [] (suc n) i (omega (arith, a .long));
           small = ways-le (postmerOk ρ w) (next w) (postmerEnd ρ w);
         }
       where
-        a : AlphabetsOf ρ w m own marks
-        a = s .alphabets
+        a : LettersOf w m own
+        a = s .word
 
     -- the column of the antemers
-    pub antemer-column : {live : ℕ} {r : List ℕ} → ReachIs ρ w live → r ≡ tabulate (λ a. row (leb a (k - m)) (liveWays ρ w live 0) a) 31
-        → r ≡ column k m (antemers (ranked ρ) w)
-    antemer-column {live} c e = e ∙ tabulate-agree 31 (λ a p. ap₂ (λ (t : Bool) (g : ℕ → ℕ). row t g a) (row-test k m a h) all-live)
+    pub antemer-column : {live : ℕ} {r : List ℕ} → ReachIs ρ w live → UpTo 31 (suc (k - m)) (liveWays ρ w live 0) r → AntemersAre ρ w k m r
+    antemer-column {live} c u = upTo-column u (λ a p. ap₂ (λ (t : Bool) (g : ℕ → ℕ). row t g a) (row-test k m a h) all-live)
       where
         all-live : liveWays ρ w live 0 ≡ antemers (ranked ρ) w
         all-live =
-            fun-ext (λ a. ap (λ (t : Bool). cond t (antemerWays ρ w 0 a) 0) (lt-ltb 0 live (c .some)) ∙ sym (antemers-table ρ (s .alphabets .one) w (s .alphabets .letters) a))
+            fun-ext (λ a. ap (λ (t : Bool). cond t (antemerWays ρ w 0 a) 0) (lt-ltb 0 live (c .some)) ∙ sym (antemers-table ρ (s .one) w (s .word .letters) a))
 
     -- the column of the postmers
-    pub postmer-column : {last : ℕ} {r : List ℕ} → LastsIs ρ w last → r ≡ tabulate (λ a. row (leb a (min (k - m) (last - 1))) (postmerWays ρ w m) a) 31
-        → r ≡ column k m (postmers (ranked ρ) w)
-    postmer-column {last} q e = e ∙ tabulate-agree 31 each
+    pub postmer-column : {rows last : ℕ} {r : List ℕ} → rows ≡ min (k - m) (last - 1) → LastsIs ρ w last → UpTo 31 (suc rows) (postmerWays ρ w m) r → PostmersAre ρ w k m r
+    postmer-column {rows} {last} e q u = upTo-column u each
       where
-        each : (a : ℕ) → a < 31 → row (leb a (min (k - m) (last - 1))) (postmerWays ρ w m) a ≡ row (leb (m + a) k) (postmers (ranked ρ) w) a
+        each : (a : ℕ) → a < 31 → row (leb a rows) (postmerWays ρ w m) a ≡ row (leb (m + a) k) (postmers (ranked ρ) w) a
         each a p =
-            ap (λ (t : Bool). row t (postmerWays ρ w m) a) (row-last a (k - m) last (lasts-some q))
+            ap (λ (t : Bool). row t (postmerWays ρ w m) a) (ap (leb a) e ∙ row-last a (k - m) last (lasts-some (moves-bans s) q))
             ∙ row-behind (leb a (k - m)) (ltb a last) (postmerWays ρ w m) (postmers (ranked ρ) w) a
-            (postmers-table ρ (s .alphabets .one) w (s .alphabets .letters) (omega (arith, s .alphabets .long, s .alphabets .some)) a
-            ∙ ap₂ (λ (t : Bool) (i : ℕ). cond t (postmerWays ρ w i a) 0) (word-allowed ρ w a (omega (arith, s .alphabets .long)) ∙ ap (ltb a) (sym q)) (s .alphabets .long))
+            (postmers-table ρ (s .one) w (s .word .letters) (omega (arith, s .word .long, s .word .some)) a
+            ∙ ap₂ (λ (t : Bool) (i : ℕ). cond t (postmerWays ρ w i a) 0) (word-allowed ρ w a (omega (arith, s .word .long)) ∙ ap (ltb a) (sym q)) (s .word .long))
             ∙ ap (λ (t : Bool). row t (postmers (ranked ρ) w) a) (row-test k m a h)

@@ -1,36 +1,76 @@
 -- What the functions behind a worksheet ask and give. What is said of a word and a ranking is said of every one that the tables belong to.
 -- Assumes nothing.
-use Prim.Native.Nat.{ℕ, zero, suc, _+_, _-_, _*_, _^_, _≤_, _<_}
+use Prim.Native.Nat.{ℕ, suc, _+_, _-_, _*_, _^_, _≤_, _<_, min}
 use mathlib.Core.Bool.{Bool, true, cond, not, _&&_}
 use mathlib.Core.List.{List, map}
 use mathlib.Core.Logic.{_⊎_}
 use mathlib.Core.Path.{_≡_}
-use lib.Dec.{ltb, leb, eqb}
+use lib.Dec.{ltb, eqb}
 use lib.ListN.{length, getD, drop}
 use Rattle.definitions.specs.Lists.{tabulate, total}
-use Rattle.definitions.specs.Words.{Word, letters}
-use Rattle.definitions.specs.Shelves.{row, antemers, postmers, column}
-use Rattle.laws.specs.Orders.{Ranking, ranked}
+use Rattle.definitions.specs.Words.{Word, Letters, letters}
+use Rattle.definitions.specs.Shelves.{antemers, postmers, column}
+use Rattle.laws.specs.Orders.{Ranking, OneToOne, ranked}
 use Rattle.laws.specs.Threads.{caught}
 use Rattle.laws.specs.Acceptors.{belowHit}
 use Rattle.laws.specs.Tables.{antemerEnd}
 use Rattle.laws.specs.Bans.{ban, lasts, lowBy}
-use Rattle.states.specs.Tables.{AlphabetsOf, LinksOf}
+use Rattle.states.specs.Grids.{grid}
+use Rattle.states.specs.Tables.{ownOf, nextAt, banAt, AlphabetsOf, LinksOf}
 
 -- ---- words and rankings that the tables belong to
 
--- something holds of some ranking and word
-abbrev pub Known : (Ranking → Word → Type 0) → Type 0
-Known P = (ρ : Ranking) × (w : Word) × P ρ w
+-- a list that holds the letters of a word of m letters
+pub record LettersOf (w : Word) (m : ℕ) (own : List ℕ) : Type 0 where
+  pub letters : Letters w
+  pub long : length w ≡ m
+  pub some : 0 < m
+  pub few : m ≤ 31
+  pub owns : own ≡ ownOf w
 
--- something holds of every ranking and word of which something else holds
-abbrev pub All : (Ranking → Word → Type 0) → (Ranking → Word → Type 0) → Type 0
-All P Q = (ρ : Ranking) (w : Word) → P ρ w → Q ρ w
+-- beside w's own letters: when letters are banned
+pub record BansOf (ρ : Ranking) (w : Word) (m : ℕ) (own ban : List ℕ) : Type 0 where
+  pub word : LettersOf w m own
+  pub bans : ban ≡ grid (banAt ρ w)
+
+-- and where letters lead
+pub record MovesOf (ρ : Ranking) (w : Word) (m : ℕ) (own next ban : List ℕ) : Type 0 where
+  pub one : OneToOne ρ
+  pub word : LettersOf w m own
+  pub links : LinksOf ρ w next ban
+
+-- beside the special alphabets: where letters lead
+pub record NextsOf (ρ : Ranking) (w : Word) (m : ℕ) (own marks next : List ℕ) : Type 0 where
+  pub alphabets : AlphabetsOf ρ w m own marks
+  pub nexts : next ≡ grid (nextAt w)
 
 -- lists that are the states of a word of m letters
 pub record StatesOf (ρ : Ranking) (w : Word) (m : ℕ) (own marks next ban : List ℕ) : Type 0 where
   pub alphabets : AlphabetsOf ρ w m own marks
   pub links : LinksOf ρ w next ban
+
+-- the entry of a table at row i, by w's own letter at place p
+abbrev pub entryOf : ℕ → ℕ → List ℕ → List ℕ → ℕ
+entryOf i p own table = getD table (4 * i + getD own p 0) 0
+
+-- what reading it asks
+pub record EntryReady (i p : ℕ) (own table : List ℕ) : Type 0 where
+  pub inside : i < 32
+  pub place : p < 32
+  pub letter : getD own p 0 < 4
+  pub byte : entryOf i p own table < 256
+
+-- ---- lists of numbers
+
+-- a list of n numbers: those below `to` are given, the others are 0
+pub record UpTo (n to : ℕ) (given : ℕ → ℕ) (list : List ℕ) : Type 0 where
+  pub long : length list ≡ n
+  pub below : (i : ℕ) → i < to → getD list i 0 ≡ given i
+  pub above : (i : ℕ) → to ≤ i → getD list i 0 ≡ 0
+
+-- the powers of four
+pub record PowersAre (powers : List ℕ) : Type 0 where
+  pub each : (n : ℕ) → n < 32 → getD powers n 0 ≡ 4 ^ n
 
 -- ---- where antemers end
 
@@ -48,13 +88,13 @@ pub record ReachIs (ρ : Ranking) (w : Word) (live : ℕ) : Type 0 where
   pub most : live ≤ length w
   pub stops : live < length w → ban w (lowBy ρ w) (live - 1) (getD w (live - 1) 0) ≤ length w
 
--- the ways to end an antemer at a state below so many
-abbrev pub endWays : Ranking → Word → ℕ → ℕ → ℕ
-endWays ρ w live i = cond (ltb i live && antemerEnd ρ w i) 1 0
+-- the ways to end an antemer at a state
+abbrev pub endWays : Ranking → Word → ℕ → ℕ
+endWays ρ w i = cond (antemerEnd ρ w i) 1 0
 
--- for each of these states the ways to end an antemer there
+-- for each state below `live` the ways to end an antemer there
 abbrev pub EndsAre : Ranking → Word → ℕ → List ℕ → Type 0
-EndsAre ρ w live ends = ends ≡ tabulate (endWays ρ w live) 64
+EndsAre ρ w live ends = UpTo 64 live (endWays ρ w) ends
 
 -- in how many rows w itself is allowed
 abbrev pub LastsIs : Ranking → Word → ℕ → Type 0
@@ -86,6 +126,11 @@ pub record WayReady (c done : ℕ) (allowed ways : List ℕ) : Type 0 where
   pub inside : c < 128
   pub leads : done + getD allowed c 0 < 64
 
+-- what summing up the ways on from a state asks: no way passes 4^30
+pub record SumReady (i done : ℕ) (allowed ways : List ℕ) : Type 0 where
+  pub ready : (b : ℕ) → b < 4 → WayReady (4 * i + b) done allowed ways
+  pub small : (b : ℕ) → b < 4 → wayOf (4 * i + b) done allowed ways ≤ 4 ^ 30
+
 -- what writing a row asks: what is written stands below place 32, no letter leads past the next state but to 32, and no sum passes 4^31
 pub record RowReady (lo hi done : ℕ) (allowed ways : List ℕ) : Type 0 where
   pub longAllowed : length allowed ≡ 128
@@ -115,14 +160,12 @@ pub record Counts (W : ℕ → ℕ → ℕ) (m rows start follow live : ℕ) (fi
   pub whole : start + follow ≡ m
   pub within : start < live
   pub alive : live ≤ suc m
-  pub longFirst : length first ≡ 64
   pub longNext : length next ≡ 128
   pub longBan : length ban ≡ 128
   pub bans : (i b : ℕ) → i < live → b < 4 → (getD ban (4 * i + b) 0 ≤ m) ⊎ (getD ban (4 * i + b) 0 ≡ 64)
   pub leads : (i b : ℕ) → i < live → b < 4 → (getD next (4 * i + b) 0 ≤ suc i) × (getD next (4 * i + b) 0 ≤ m)
-  pub begins : (i : ℕ) → i < live → getD first i 0 ≡ W i 0
+  pub begins : UpTo 64 live (λ i. W i 0) first
   pub dead : (i n : ℕ) → live ≤ i → i ≤ m → W i n ≡ 0
-  pub empty : (p : ℕ) → live ≤ p → getD first p 0 ≡ 0
   pub step : (i n : ℕ) → i < live → suc n ≤ rows
       → W i (suc n) ≡ total (map (λ b. cond (ltb (suc n + follow) (getD ban (4 * i + b) 0)) (W (getD next (4 * i + b) 0) n) 0) letters)
   pub free : (i n : ℕ) → i + (suc n + follow) < m → W i (suc n) ≡ 4 ^ suc n
@@ -135,14 +178,54 @@ Countable m rows start follow live first next ban = (W : ℕ → ℕ → ℕ) ×
 -- whatever ways are counted so, the column holds those from the start
 abbrev pub CountedBy : (m rows start follow live : ℕ) → List ℕ → List ℕ → List ℕ → List ℕ → Type 0
 CountedBy m rows start follow live first next ban r =
-    (W : ℕ → ℕ → ℕ) → Counts W m rows start follow live first next ban → r ≡ tabulate (λ a. row (leb a rows) (W start) a) 31
+    (W : ℕ → ℕ → ℕ) → Counts W m rows start follow live first next ban → UpTo 31 (suc rows) (W start) r
+
+-- what the ways hold after n letters: state i at place n + i, and 0 beyond the states that live
+pub record Filled (W : ℕ → ℕ → ℕ) (rows start live n : ℕ) (ways : List ℕ) : Type 0 where
+  pub long : length ways ≡ 64
+  pub right : (i : ℕ) → i < live → i + n ≤ start + rows → getD ways (n + i) 0 ≡ W i n
+  pub rest : (p : ℕ) → n + live ≤ p → getD ways p 0 ≡ 0
+
+-- what stands where the next row is to be written, after n letters
+pub record Turn (W : ℕ → ℕ → ℕ) (first next ban : List ℕ) (m rows start follow live n : ℕ) (allowed ways : List ℕ) : Type 0 where
+  pub counts : Counts W m rows start follow live first next ban
+  pub lets : AllowedBy (min (suc n + follow) m) next ban allowed
+  pub filled : Filled W rows start live n ways
+  pub more : suc n ≤ rows
+
+-- it stands so for some ways
+abbrev pub TurnReady : (m rows start follow live n : ℕ) → List ℕ → List ℕ → Type 0
+TurnReady m rows start follow live n allowed ways =
+    (W : ℕ → ℕ → ℕ) × (first : List ℕ) × (next : List ℕ) × (ban : List ℕ) × Turn W first next ban m rows start follow live n allowed ways
+
+-- the next row is written, and a number is the start's ways in it
+pub record TurnDone (W : ℕ → ℕ → ℕ) (rows start live n : ℕ) (ways : List ℕ) (r : ℕ) : Type 0 where
+  pub filled : Filled W rows start live (suc n) ways
+  pub begun : r ≡ W start (suc n)
+
+-- it is so for whatever ways it stood before the next row
+abbrev pub Turned : (m rows start follow live n : ℕ) → List ℕ → List ℕ → List ℕ → ℕ → Type 0
+Turned m rows start follow live n allowed ways after r =
+    (W : ℕ → ℕ → ℕ) (first next ban : List ℕ) → Turn W first next ban m rows start follow live n allowed ways → TurnDone W rows start live n after r
 
 -- ---- a sheet
 
+-- a list is a column of the worksheet
+pub record ColumnIs (k m : ℕ) (count : ℕ → ℕ) (list : List ℕ) : Type 0 where
+  pub is : list ≡ column k m count
+
+-- it is that of the antemers
+abbrev pub AntemersAre : Ranking → Word → ℕ → ℕ → List ℕ → Type 0
+AntemersAre ρ w k m list = ColumnIs k m (antemers (ranked ρ) w) list
+
+-- or that of the postmers
+abbrev pub PostmersAre : Ranking → Word → ℕ → ℕ → List ℕ → Type 0
+PostmersAre ρ w k m list = ColumnIs k m (postmers (ranked ρ) w) list
+
 -- the columns are those of the worksheet
 pub record SheetIs (ρ : Ranking) (w : Word) (k m : ℕ) (before after : List ℕ) : Type 0 where
-  pub antemers-are : before ≡ column k m (antemers (ranked ρ) w)
-  pub postmers-are : after ≡ column k m (postmers (ranked ρ) w)
+  pub antemers-are : AntemersAre ρ w k m before
+  pub postmers-are : PostmersAre ρ w k m after
 
 -- the sum over the first so many rows a of the antemers in row n − a times the postmers in row a
 abbrev pub productSum : ℕ → List ℕ → List ℕ → ℕ → ℕ

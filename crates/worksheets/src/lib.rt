@@ -7,22 +7,30 @@
 // stands nothing, so only an m-mer for which letters are left exists, and where none can exist any more the ways are a power of four.
 ghost use mathlib.Core.Path.{_≡_};
 ghost use Prim.Native.Nat.{suc, _-_, _^_, _≤_, _<_};
-ghost use Rattle.definitions.specs.Lists.{tabulate};
 ghost use Rattle.definitions.specs.Outcomes.{worksheetOutcome, sizeOutcome};
-ghost use Rattle.states.specs.Tables.{AlphabetsOf};
-ghost use Rattle.worksheets.specs.Columns.{Known, All, StatesOf, CaughtIs, EndIs, EndsAre, ReachIs, LastsIs, leadsTo, AllowedBy, wayOf, sumOf, WayReady, RowReady, FreeReady, Written, Countable, CountedBy, SheetIs, productSum};
+ghost use Rattle.states.specs.Tables.{Known, All, AlphabetsOf};
+ghost use Rattle.worksheets.specs.Columns.{BansOf, MovesOf, NextsOf, StatesOf, entryOf, EntryReady, PowersAre, CaughtIs, EndIs, EndsAre, ReachIs, LastsIs, leadsTo, AllowedBy, wayOf, sumOf, WayReady, SumReady, RowReady, FreeReady, Written, TurnReady, Turned, Countable, CountedBy, AntemersAre, PostmersAre, SheetIs, productSum};
 ghost use Rattle.worksheets.specs.Answers.{worked, counted};
 
 // How a letter is marked in the special alphabets.
-const BELOW: u8 = 0;
+const BELOW: u64 = 0;
 
-const EQUAL: u8 = 1;
+const EQUAL: u64 = 1;
 
 // More letters than are ever left, as `states` has it, and so above every row.
 const NEVER: u64 = 64;
 
 // A state above all others, where a banned letter leads: there are no ways from it.
 const NOWHERE: u8 = 32;
+
+// What a table has at row i for w's own letter at place p.
+fn own_entry(i: u64, p: u64, own: &[u8; 32], table: &[u8; 128]) -> u64
+    requires { ⌜ EntryReady i p (now own) (now table) ⌝ }
+    ensures { λ r. ⌜ r ≡ entryOf i p (now (own .entry)) (now (table .entry)) ⌝ }
+{
+    let letter = own[p as usize] as u64;
+    table[(4 * i + letter) as usize] as u64
+}
 
 // Whether the m-mer that has the first i letters of w and then w's first letters again comes out below w, or is w.
 fn caught(m: u64, i: u64, own: &[u8; 32], marks: &[u8; 128]) -> bool
@@ -32,8 +40,7 @@ fn caught(m: u64, i: u64, own: &[u8; 32], marks: &[u8; 128]) -> bool
 {
     let mut j: u64 = 0;
     while i + j < m {
-        let letter = own[j as usize] as u64;
-        let mark = marks[(4 * (i + j) + letter) as usize];
+        let mark = own_entry(i + j, j, own, marks);
         if mark != EQUAL {
             return mark == BELOW;
         }
@@ -58,14 +65,13 @@ fn end_at(fallen: u64, m: u64, i: u64, own: &[u8; 32], marks: &[u8; 128]) -> u64
 }
 
 // Below which state antemers stay: w's own letters lead from state to state until one of them is banned, or up to w itself.
-fn reach(m: u64, own: &[u8; 32], marks: &[u8; 128], next: &[u8; 128], ban: &[u8; 128]) -> u64
-    requires { ⌜ Known (λ ρ w. StatesOf ρ w m (now own) (now marks) (now next) (now ban)) ⌝ }
-    ensures { λ r. ⌜ All (λ ρ w. StatesOf ρ w m (now (own .entry)) (now (marks .entry)) (now (next .entry)) (now (ban .entry))) (λ ρ w. ReachIs ρ w r) ⌝ }
+fn reach(m: u64, own: &[u8; 32], ban: &[u8; 128]) -> u64
+    requires { ⌜ Known (λ ρ w. BansOf ρ w m (now own) (now ban)) ⌝ }
+    ensures { λ r. ⌜ All (λ ρ w. BansOf ρ w m (now (own .entry)) (now (ban .entry))) (λ ρ w. ReachIs ρ w r) ⌝ }
 {
     let mut i: u64 = 0;
     while i + 1 < m {
-        let letter = own[i as usize] as u64;
-        if (ban[(4 * i + letter) as usize] as u64) < NEVER {
+        if own_entry(i, i, own, ban) < NEVER {
             return i + 1;
         }
         i += 1;
@@ -74,17 +80,10 @@ fn reach(m: u64, own: &[u8; 32], marks: &[u8; 128], next: &[u8; 128], ban: &[u8;
 }
 
 // For each state below `live` the ways to end an antemer there, 1 or 0; the others have none.
-fn ends(
-    m: u64,
-    live: u64,
-    own: &[u8; 32],
-    marks: &[u8; 128],
-    next: &[u8; 128],
-    ban: &[u8; 128],
-) -> [u64; 64]
-    requires { ⌜ Known (λ ρ w. StatesOf ρ w m (now own) (now marks) (now next) (now ban)) ⌝ }
+fn ends(m: u64, live: u64, own: &[u8; 32], marks: &[u8; 128], next: &[u8; 128]) -> [u64; 64]
+    requires { ⌜ Known (λ ρ w. NextsOf ρ w m (now own) (now marks) (now next)) ⌝ }
     requires { ⌜ (0 < live) × (live ≤ m) ⌝ }
-    ensures { λ r. ⌜ All (λ ρ w. StatesOf ρ w m (now (own .entry)) (now (marks .entry)) (now (next .entry)) (now (ban .entry))) (λ ρ w. EndsAre ρ w live r) ⌝ }
+    ensures { λ r. ⌜ All (λ ρ w. NextsOf ρ w m (now (own .entry)) (now (marks .entry)) (now (next .entry))) (λ ρ w. EndsAre ρ w live r) ⌝ }
 {
     let mut ends: [u64; 64] = [0; 64];
     ends[0] = 1;
@@ -92,23 +91,21 @@ fn ends(
     let mut i: u64 = 1;
     while i < live {
         ends[i as usize] = end_at(ends[fall as usize], m, i, own, marks);
-        let letter = own[i as usize] as u64;
-        fall = next[(4 * fall + letter) as usize] as u64;
+        fall = own_entry(fall, i, own, next);
         i += 1;
     }
     ends
 }
 
 // In how many rows the postmers begin with w at all: w's own letters are not banned in it while so few letters follow.
-fn lasts(m: u64, own: &[u8; 32], marks: &[u8; 128], next: &[u8; 128], ban: &[u8; 128]) -> u64
-    requires { ⌜ Known (λ ρ w. StatesOf ρ w m (now own) (now marks) (now next) (now ban)) ⌝ }
-    ensures { λ r. ⌜ All (λ ρ w. StatesOf ρ w m (now (own .entry)) (now (marks .entry)) (now (next .entry)) (now (ban .entry))) (λ ρ w. LastsIs ρ w r) ⌝ }
+fn lasts(m: u64, own: &[u8; 32], ban: &[u8; 128]) -> u64
+    requires { ⌜ Known (λ ρ w. BansOf ρ w m (now own) (now ban)) ⌝ }
+    ensures { λ r. ⌜ All (λ ρ w. BansOf ρ w m (now (own .entry)) (now (ban .entry))) (λ ρ w. LastsIs ρ w r) ⌝ }
 {
     let mut rows: u64 = NEVER;
     let mut j: u64 = 0;
     while j < m {
-        let letter = own[j as usize] as u64;
-        let left = ban[(4 * j + letter) as usize] as u64;
+        let left = own_entry(j, j, own, ban);
         rows = words::lesser(rows, left + j - m);
         j += 1;
     }
@@ -145,22 +142,30 @@ fn way(c: usize, done: u64, allowed: &[u8; 128], ways: &[u64; 64]) -> u64
     ways[(done + allowed[c] as u64) as usize]
 }
 
+// The ways on from a state, by any letter.
+fn ways_on(i: u64, done: u64, allowed: &[u8; 128], ways: &[u64; 64]) -> u64
+    requires { ⌜ SumReady i done (now allowed) (now ways) ⌝ }
+    ensures { λ r. ⌜ r ≡ sumOf i done (now (allowed .entry)) (now (ways .entry)) ⌝ }
+{
+    let c = (4 * i) as usize;
+    let a_way = way(c, done, allowed, ways);
+    let c_way = way(c + 1, done, allowed, ways);
+    let g_way = way(c + 2, done, allowed, ways);
+    let t_way = way(c + 3, done, allowed, ways);
+    a_way + c_way + g_way + t_way
+}
+
 // Writes, for the states from `lo` to below `hi`, the ways to complete each by one letter more than stood there. State i with r letters stands
 // at place r + i, where state i + 1 stood with one letter less: from the highest state down, nothing is lost that is still wanted.
 fn ways_row(lo: u64, hi: u64, done: u64, allowed: &[u8; 128], ways: &mut [u64; 64])
     requires { ⌜ RowReady lo hi done (now allowed) (now ways) ⌝ }
     ensures { λ _. ⌜ Written lo hi (suc done) (λ i. sumOf i done (now (allowed .entry)) (now (ways .entry))) (now (ways .entry)) (now (ways .exit)) ⌝ }
 {
-    let to = done + 1;
     let mut i = hi;
     while lo < i {
         i -= 1;
-        let c = (4 * i) as usize;
-        let a_way = way(c, done, allowed, ways);
-        let c_way = way(c + 1, done, allowed, ways);
-        let g_way = way(c + 2, done, allowed, ways);
-        let t_way = way(c + 3, done, allowed, ways);
-        ways[(to + i) as usize] = a_way + c_way + g_way + t_way;
+        let sum = ways_on(i, done, allowed, ways);
+        ways[(done + 1 + i) as usize] = sum;
     }
 }
 
@@ -183,42 +188,110 @@ struct Side {
     live: u64,
 }
 
+// Writes the next row of a side, the ways by one letter more than are done, and gives those from the start. From the states in which no m-mer
+// can exist any more they are a power of four; a state from which the start is too far away is passed over.
+fn next_row(
+    m: u64,
+    rows: u64,
+    done: u64,
+    side: Side,
+    powers: &[u64; 32],
+    allowed: &[u8; 128],
+    ways: &mut [u64; 64],
+) -> u64
+    requires { ⌜ TurnReady m rows (side .start) (side .follow) (side .live) done (now allowed) (now ways) ⌝ }
+    requires { ⌜ PowersAre (now powers) ⌝ }
+    ensures { λ r. ⌜ Turned m rows (side .start) (side .follow) (side .live) done (now (allowed .entry)) (now (ways .entry)) (now (ways .exit)) r ⌝ }
+{
+    let r = done + 1;
+    let free = m - words::lesser(m, r + side.follow);
+    let needed = words::lesser(side.live, side.start + rows - done);
+    ways_row(free, needed, done, allowed, ways);
+    free_row(free, r, powers[r as usize], ways);
+    ways[(r + side.start) as usize]
+}
+
 // The column of a side, from the ways to complete each state by no letter: row r, up to the last of so many, holds the ways to complete the
-// start by r letters. Which letters are banned changes while fewer letters than w has are left; from the states in which no m-mer can exist any
-// more the ways are a power of four; a state from which the start is too far away is passed over.
+// start by r letters. Which letters are banned changes while fewer letters than w has are left.
 fn column(
     m: u64,
     rows: u64,
     side: Side,
-    first: [u64; 64],
+    mut ways: [u64; 64],
     powers: &[u64; 32],
     next: &[u8; 128],
     ban: &[u8; 128],
 ) -> [u64; 31]
-    requires { ⌜ Countable m rows (side .start) (side .follow) (side .live) first (now next) (now ban) ⌝ }
-    requires { ⌜ now powers ≡ tabulate (λ n. 4 ^ n) 32 ⌝ }
-    ensures { λ r. ⌜ CountedBy m rows (side .start) (side .follow) (side .live) first (now (next .entry)) (now (ban .entry)) r ⌝ }
+    requires { ⌜ Countable m rows (side .start) (side .follow) (side .live) ways (now next) (now ban) ⌝ }
+    requires { ⌜ PowersAre (now powers) ⌝ }
+    ensures { λ r. ⌜ CountedBy m rows (side .start) (side .follow) (side .live) ways (now (next .entry)) (now (ban .entry)) r ⌝ }
 {
-    let start = side.start;
-    let mut ways = first;
     let mut column: [u64; 31] = [0; 31];
-    column[0] = ways[start as usize];
+    column[0] = ways[side.start as usize];
     let mut allowed = allowed_letters(side.follow, next, ban);
     let mut done: u64 = 0;
     while done < rows {
         let r = done + 1;
         let left = r + side.follow;
-        let free = m - words::lesser(m, left);
-        let needed = words::lesser(side.live, start + rows + 1 - r);
         if left <= m {
             allowed = allowed_letters(left, next, ban);
         }
-        ways_row(free, needed, done, &allowed, &mut ways);
-        free_row(free, r, powers[r as usize], &mut ways);
-        column[r as usize] = ways[(r + start) as usize];
+        column[r as usize] = next_row(m, rows, done, side, powers, &allowed, &mut ways);
         done = r;
     }
     column
+}
+
+// The column of the antemers. They are counted from state 0, with w to follow.
+fn antemers(
+    k: u64,
+    m: u64,
+    own: &[u8; 32],
+    marks: &[u8; 128],
+    next: &[u8; 128],
+    ban: &[u8; 128],
+    powers: &[u64; 32],
+) -> [u64; 31]
+    requires { ⌜ Known (λ ρ w. StatesOf ρ w m (now own) (now marks) (now next) (now ban)) ⌝ }
+    requires { ⌜ (m ≤ k) × (k ≤ 31) ⌝ }
+    requires { ⌜ PowersAre (now powers) ⌝ }
+    ensures { λ r. ⌜ All (λ ρ w. StatesOf ρ w m (now (own .entry)) (now (marks .entry)) (now (next .entry)) (now (ban .entry))) (λ ρ w. AntemersAre ρ w k m r) ⌝ }
+{
+    let live = reach(m, own, ban);
+    let first = ends(m, live, own, marks, next);
+    let side = Side {
+        start: 0,
+        follow: m,
+        live,
+    };
+    column(m, k - m, side, first, powers, next, ban)
+}
+
+// The column of the postmers. They are counted from state m, with nothing to follow, in the rows in which w itself is allowed.
+fn postmers(
+    k: u64,
+    m: u64,
+    own: &[u8; 32],
+    next: &[u8; 128],
+    ban: &[u8; 128],
+    powers: &[u64; 32],
+) -> [u64; 31]
+    requires { ⌜ Known (λ ρ w. MovesOf ρ w m (now own) (now next) (now ban)) ⌝ }
+    requires { ⌜ (m ≤ k) × (k ≤ 31) ⌝ }
+    requires { ⌜ PowersAre (now powers) ⌝ }
+    ensures { λ r. ⌜ All (λ ρ w. MovesOf ρ w m (now (own .entry)) (now (next .entry)) (now (ban .entry))) (λ ρ w. PostmersAre ρ w k m r) ⌝ }
+{
+    let last = lasts(m, own, ban);
+    let rows = words::lesser(k - m, last - 1);
+    let live = m + 1;
+    let mut first: [u64; 64] = [0; 64];
+    free_row(live, 0, 1, &mut first);
+    let side = Side {
+        start: m,
+        follow: 0,
+        live,
+    };
+    column(m, rows, side, first, powers, next, ban)
 }
 
 // The two columns of a worksheet.
@@ -237,26 +310,9 @@ fn sheet_of(k: u64, m: u64, s: states::States) -> Sheet
     let marks = s.marks;
     let next = s.next;
     let ban = s.ban;
-    let rows = k - m;
-    let live = reach(m, &own, &marks, &next, &ban);
-    let last = lasts(m, &own, &marks, &next, &ban);
-    let before = Side {
-        start: 0,
-        follow: m,
-        live,
-    };
-    let after = Side {
-        start: m,
-        follow: 0,
-        live: m + 1,
-    };
-    let first = ends(m, live, &own, &marks, &next, &ban);
     let powers = words::powers();
-    let antemers = column(m, rows, before, first, &powers, &next, &ban);
-    let begun = words::lesser(rows, last - 1);
-    let mut ones: [u64; 64] = [0; 64];
-    free_row(m + 1, 0, 1, &mut ones);
-    let postmers = column(m, begun, after, ones, &powers, &next, &ban);
+    let antemers = antemers(k, m, &own, &marks, &next, &ban, &powers);
+    let postmers = postmers(k, m, &own, &next, &ban, &powers);
     Sheet { antemers, postmers }
 }
 
@@ -318,8 +374,6 @@ pub fn size(k: u64, m: u64, key: u64, word: u64) -> Counted
             count: 0,
         };
     }
-    Counted {
-        refusal: 0,
-        count: products(k - m, worked.sheet),
-    }
+    let count = products(k - m, worked.sheet);
+    Counted { refusal: 0, count }
 }

@@ -2,6 +2,7 @@
 -- state i falls to. The measure is how many states are left.
 -- Assumes nothing.
 use Prim.Native.Nat.{suc, _-_, _≤_}
+use mathlib.Core.Path.{refl}
 use native.Mathlib.Numerals.{add-one}
 use native.Mathlib.Omega.{arith}
 use Rattle.definitions.specs.Words.{Word}
@@ -20,21 +21,21 @@ abbrev μ-loop : tie.MeasureT-loop
 
 -- what is read in the loop lies in the tables
 known : (c : tie.In-loop Inv-loop μ-loop)
-    → (let args = c .before .before .args in
+    → (let args = c .before .before .before .before .args in
     let at = c .before .loop in
-    Going (args .m) (at .i) (at .fall) (args .own .now) (args .marks .now) (at .next) (at .ban))
+    Going (args .m) (at .i) (at .fall) (args .alphabets .own) (args .alphabets .marks) (at .next) (at .ban))
 known c =
-    let pre = c .before .before .pre in
+    let pre = c .before .before .before .before .pre in
     going (pre .2) (c .before .loop .inv .1 (pre .0) (pre .1) (pre .2)) (omega arith)
 
 loop-holds : tie.Need-loop-holds Inv-loop μ-loop
 loop-holds c = (omega arith, λ ρ w a. reached-first ρ w)
 
 row-requires : tie.Need-row-requires Inv-loop μ-loop
-row-requires c κs = (omega (arith, known c .few), known c .markLong)
+row-requires c κs = (omega (arith, known (c .before) .few), known (c .before) .markLong)
 
-element-copy-out-letter : tie.Need-element-copy-out-letter Inv-loop μ-loop
-element-copy-out-letter c = omega (arith, known (c .before) .few)
+array-read-letter : tie.Need-array-read-letter Inv-loop μ-loop
+array-read-letter c = omega (arith, known (c .before .before) .few)
 
 cast-letter : tie.Need-cast-letter Inv-loop μ-loop
 cast-letter c = omega (arith, known (c .before .before) .letter)
@@ -51,44 +52,31 @@ array-read-after c = let k = known (c .before .before) in omega (arith, k .low, 
 cast-after : tie.Need-cast-after Inv-loop μ-loop
 cast-after c = omega (arith, known (c .before .before) .after)
 
-row-requires-2 : tie.Need-row-requires-2 Inv-loop μ-loop
-row-requires-2 c κs = let k = known (c .before .before .before) in (k .low, k .nextLong)
+add-link : tie.Need-add-link Inv-loop μ-loop
+add-link c = omega (arith, known (c .before .before) .few)
 
-next-row-requires : tie.Need-next-row-requires Inv-loop μ-loop
-next-row-requires c κs = omega (arith, known (c .before .before .before .before) .few)
+link-requires : tie.Need-link-requires Inv-loop μ-loop
+link-requires c κs = let k = known (c .before .before .before) in record { small = omega (arith, k .few); from = omega (arith, k .few, k .low); to = omega (arith, k .few); long = k .nextLong }
 
-row-requires-3 : tie.Need-row-requires-3 Inv-loop μ-loop
-row-requires-3 c κs = let k = known (c .before .before .before .before .before .before) in (k .low, k .banLong)
-
-ban-row-requires : tie.Need-ban-row-requires Inv-loop μ-loop
-ban-row-requires c κs = omega (arith, known (c .before .before .before .before .before .before .before) .few)
-
-put-requires : tie.Need-put-requires Inv-loop μ-loop
-put-requires c κs = let k = known (c .before .before .before .before .before .before .before .before .before) in (omega (arith, k .few), k .nextLong)
-
-put-requires-2 : tie.Need-put-requires-2 Inv-loop μ-loop
-put-requires-2 c κs = let k = known (c .before .before .before .before .before .before .before .before .before .before .before) in (omega (arith, k .few), k .banLong)
+link-requires-2 : tie.Need-link-requires-2 Inv-loop μ-loop
+link-requires-2 c κs =
+    let k = known (c .before .before .before .before .before) in
+    record { small = omega (arith, k .few); from = omega (arith, k .few, k .low); to = omega (arith, k .few); long = k .banLong }
 
 add-i : tie.Need-add-i Inv-loop μ-loop
-add-i c = omega (arith, known (c .before .before .before .before .before .before .before .before .before .before .before .before) .few)
+add-i c = omega (arith, known (c .before .before .before .before .before .before) .few)
 
 loop-less : tie.Need-loop-less Inv-loop μ-loop
 loop-less c = omega arith
 
 loop-again : tie.Need-loop-again Inv-loop μ-loop
 loop-again c =
-    let inv = c .before .before .before .before .before .before .before .before .before .before .before .before .before .loop .inv in
-    let here = c .before .before .before .before .before .before .before .before .before .before .before .row .ensures in
-    let nexts = c .before .before .before .before .before .before .before in
-    let bans = c .before .before .before .before in (
-      omega arith,
-      rw add-one (λ ρ w a. reached-more a (inv .1 ρ w a) (omega arith) here
-          (nexts .before .row2 .ensures) (nexts .next-row .ensures) (c .before .before .put .ensures)
-          (bans .before .row3 .ensures) (bans .ban-row .ensures) (c .put2 .ensures)),
-    )
+    let inv = c .before .before .before .before .before .before .before .loop .inv in
+    let here = c .before .before .before .before .row .ensures in
+    (omega arith, rw add-one (λ ρ w a. reached-more a (inv .1 ρ w a) (omega arith) here (c .before .before .link .ensures) (c .link2 .ensures)))
 
 returns : tie.Need-returns Inv-loop μ-loop
-returns c = λ ρ w a. reached-last (c .before .loop .inv .1 ρ w a) (omega (arith, a .long))
+returns c = (refl, refl, λ ρ w a. reached-last (c .before .loop .inv .1 ρ w a) (omega (arith, a .long)))
 
 pub link-states-spec : {M : Type 1} → statement M
 link-states-spec =
@@ -98,18 +86,15 @@ link-states-spec =
     μ-loop
     loop-holds
     row-requires
-    element-copy-out-letter
+    array-read-letter
     cast-letter
     mul-after
     add-after
     array-read-after
     cast-after
-    row-requires-2
-    next-row-requires
-    row-requires-3
-    ban-row-requires
-    put-requires
-    put-requires-2
+    add-link
+    link-requires
+    link-requires-2
     add-i
     loop-less
     loop-again

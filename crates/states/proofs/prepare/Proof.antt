@@ -31,15 +31,18 @@ accepted a l = rw (a .owns, a .ranks, l .nexts, l .bans)
 word-refusal-requires : tie.Need-word-refusal-requires
 word-refusal-requires c κs = search needs
 
+-- the refusal is that of the shelf
+given : (c : tie.After-word-refusal)
+    → let args = c .before .args in c .word-refusal .result ≡ refusal (shelfGrounds (args .k) (args .m) (args .key) (args .word))
+given c = c .word-refusal .ensures
+
 returns : tie.Need-returns
 unfolding prepareOutcome
-returns c =
-    let r = c .before .word-refusal in
-    rw (← r .ensures) (refused (r .result) (c .if1 .taken) _ _)
+returns c = rw (← given (c .before)) (refused (c .before .word-refusal .result) (c .if1 .taken) _ _)
 
 -- where the test failed, nothing is refused
 none : (c : tie.Else1) → let args = c .before .before .args in refusal (shelfGrounds (args .k) (args .m) (args .key) (args .word)) ≡ 0
-none c = sym (c .before .word-refusal .ensures) ∙ c .if1 .left
+none c = sym (given (c .before)) ∙ c .if1 .left
 
 special-alphabets-requires : tie.Need-special-alphabets-requires
 special-alphabets-requires c κs =
@@ -47,13 +50,14 @@ special-alphabets-requires c κs =
     word-accepted (args .m) (args .k) (args .m) (args .key) (args .word) (none c)
 
 link-states-requires : tie.Need-link-states-requires
-link-states-requires c κs = (_, _, c .before .before .before .before .special-alphabets .ensures)
+link-states-requires c κs = (_, _, c .special-alphabets .ensures)
 
 returns-2 : tie.Need-returns-2
 unfolding prepareOutcome
 returns-2 c =
-    let a = c .before .before .before .before .before .before .before .special-alphabets .ensures in
-    rw (none (c .before .before .before .before .before .before .before .before)) (accepted a (c .before .before .link-states .ensures _ _ a))
+    let a = c .before .special-alphabets .ensures in
+    let l = c .link-states .ensures in
+    rw (none (c .before .before), l .0, l .1) (accepted a (l .2 _ _ a))
 
 pub prepare-spec : {M : Type 1} → statement M
 prepare-spec =

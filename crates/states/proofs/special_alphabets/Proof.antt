@@ -6,7 +6,6 @@ use mathlib.Core.List.{List, [], _∷_, map}
 use mathlib.Core.Path.{_≡_, refl, ap, fun-ext, _∙_}
 use native.Mathlib.Numerals.{add-one}
 use native.Mathlib.Omega.{arith}
-use borrow.Author.Needs.{needs}
 use borrow.Author.Tests.{lt-ltb, le-ltb}
 use lib.Bits.{bitXor}
 use lib.ListN.{length, getD, set, List·getD-eq-default}
@@ -31,6 +30,10 @@ marked-first : (ρ : Ranking) (w : Word) → Marked ρ w 0 (tabulate (λ q. 0) 3
 marked-first ρ w = record { owns = refl; ranks = refl }
 
 module _ {ρ : Ranking} {w : Word} {p : ℕ} {own marks : List ℕ} (d : Marked ρ w p own marks) where
+  -- the table of marks has all its rows
+  marks-long : length marks ≡ 128
+  marks-long = ap length (d .ranks) ∙ length-grid (written p (λ b. 2) (markAt ρ w))
+
   -- one row more
   marked-more : p < 32 → {letter : ℕ} {row marks′ : List ℕ} → getD w p 0 ≡ letter → row ≡ map (markAt ρ w p) letters → marks′ ≡ sets marks (4 * p) row
       → Marked ρ w (suc p) (set own p letter) marks′
@@ -68,10 +71,10 @@ loop-holds : tie.Need-loop-holds Inv-loop μ-loop
 loop-holds c = (omega arith, marked-first (keyRanking (wordOf (c .args .m) (c .args .key))) (wordOf (c .args .m) (c .args .word)))
 
 sub-shift : tie.Need-sub-shift Inv-loop μ-loop
-sub-shift c = search needs
+sub-shift c = omega arith
 
 sub-shift-2 : tie.Need-sub-shift-2 Inv-loop μ-loop
-sub-shift-2 c = search needs
+sub-shift-2 c = omega arith
 
 mul-shift : tie.Need-mul-shift Inv-loop μ-loop
 mul-shift c =
@@ -89,7 +92,7 @@ shr-turn c =
     omega (arith, few .kFew, few .mFits)
 
 cast-own : tie.Need-cast-own Inv-loop μ-loop
-cast-own c = search needs
+cast-own c = omega arith
 
 array-write-own : tie.Need-array-write-own Inv-loop μ-loop
 array-write-own c =
@@ -111,7 +114,7 @@ mark-requires-4 c κs = tt
 put-requires : tie.Need-put-requires Inv-loop μ-loop
 put-requires c κs =
     let few = c .before .before .before .before .before .before .before .pre .order in
-    (omega (arith, few .kFew, few .mFits), ap length (c .before .before .before .before .before .before .loop .inv .1 .ranks) ∙ length-grid (λ p b. 0))
+    (omega (arith, few .kFew, few .mFits), marks-long (c .before .before .before .before .before .before .loop .inv .1))
 
 add-p : tie.Need-add-p Inv-loop μ-loop
 add-p c =

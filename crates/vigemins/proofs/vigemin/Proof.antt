@@ -20,13 +20,18 @@ refused (suc r) h f m x = refl
 word-refusal-requires : tie.Need-word-refusal-requires
 word-refusal-requires c κs = search needs
 
+-- the refusal is that of the k-mer
+given : (c : tie.After-word-refusal)
+    → let args = c .before .args in c .word-refusal .result ≡ refusal (vigeminGrounds (args .k) (args .m) (args .key) (args .kmer))
+given c = c .word-refusal .ensures
+
 returns : tie.Need-returns
 unfolding vigeminOutcome
-returns c = rw (← c .before .word-refusal .ensures) (refused (c .before .word-refusal .result) (c .if1 .taken) _ _ _)
+returns c = rw (← given (c .before)) (refused (c .before .word-refusal .result) (c .if1 .taken) _ _ _)
 
 -- where the refusal is 0, nothing is refused
 none : (c : tie.Else1) → let args = c .before .before .args in refusal (vigeminGrounds (args .k) (args .m) (args .key) (args .kmer)) ≡ 0
-none c = sym (c .before .word-refusal .ensures) ∙ c .if1 .left
+none c = sym (given (c .before)) ∙ c .if1 .left
 
 least-mer-requires : tie.Need-least-mer-requires
 least-mer-requires c κs =

@@ -19,7 +19,13 @@ given : (c : tie.After-order-refusal)
     ≡ cond (eqb (c .order-refusal .result) 0) (refusal (badWord (args .n) (args .word) ∷ [])) (c .order-refusal .result)
 given c =
     let args = c .before .args in
-    refusal-append (orderGrounds (args .k) (args .m) (badKey (args .m) (args .key))) (badWord (args .n) (args .word) ∷ []) (omega arith) (sym (c .order-refusal .ensures))
+    let first = orderGrounds (args .k) (args .m) (badKey (args .m) (args .key)) in
+    let order : c .order-refusal .result ≡ refusal first = c .order-refusal .ensures in
+    refusal-append first (badWord (args .n) (args .word) ∷ []) (omega arith) (sym order)
+
+-- the test is that of the word
+tested : (c : tie.After-too-large) → let args = c .before .before .before .args in c .too-large .result ≡ badWord (args .n) (args .word) .met
+tested c = c .too-large .ensures
 
 order-refusal-requires : tie.Need-order-refusal-requires
 order-refusal-requires c κs = search needs
@@ -31,10 +37,10 @@ too-large-requires : tie.Need-too-large-requires
 too-large-requires c κs = search needs
 
 returns-2 : tie.Need-returns-2
-returns-2 c = rw (given (c .before .before .before), c .before .before .if1 .left, ← c .before .too-large .ensures, c .if2 .taken)
+returns-2 c = rw (given (c .before .before .before), c .before .before .if1 .left, ← tested (c .before), c .if2 .taken)
 
 returns-3 : tie.Need-returns-3
-returns-3 c = rw (given (c .before .before .before), c .before .before .if1 .left, ← c .before .too-large .ensures, c .if2 .left)
+returns-3 c = rw (given (c .before .before .before), c .before .before .if1 .left, ← tested (c .before), c .if2 .left)
 
 pub word-refusal-spec : {M : Type 1} → statement M
 word-refusal-spec = tie.close (tie.spec order-refusal-requires returns too-large-requires returns-2 returns-3)

@@ -1,6 +1,6 @@
 -- `worksheets::allowed_letters` meets its contract. The loop's invariant: the entries below c are written. The measure is how many are left.
 -- Assumes nothing.
-use Prim.Native.Nat.{ℕ, _+_, _-_, _≤_, _<_}
+use Prim.Native.Nat.{_+_, _-_, _≤_}
 use mathlib.Core.Path.{_≡_, refl}
 use native.Mathlib.Nat.{zero-add}
 use native.Mathlib.Numerals.{add-one}

@@ -1,7 +1,7 @@
 -- `worksheets::caught` meets its contract. The loop's invariant: the thread is caught in w exactly if, with the first j letters of w tied too,
 -- it is caught in the rest of w. The measure is how many letters of the thread are left.
 -- Assumes nothing.
-use Prim.Native.Nat.{ℕ, suc, _+_, _-_, _*_, _≤_, _<_}
+use Prim.Native.Nat.{ℕ, suc, _+_, _-_, _≤_, _<_}
 use mathlib.Core.Bool.{Bool, true, false, cond, _&&_, _||_}
 use mathlib.Core.List.{List}
 use mathlib.Core.Path.{_≡_, refl, sym, ap, ap₂, _∙_}
@@ -18,9 +18,9 @@ use Rattle.laws.specs.Numbers.{letter-lt}
 use Rattle.laws.specs.Orders.{Ranking}
 use Rattle.laws.specs.Threads.{caught}
 use Rattle.laws.specs.Acceptors.{belowHit}
-use Rattle.states.specs.Tables.{AlphabetsOf}
-use Rattle.worksheets.specs.Columns.{All}
-use Rattle.worksheets.proofs.Laws.{own-at, own-lt, mark-at}
+use Rattle.states.specs.Tables.{All, AlphabetsOf}
+use Rattle.worksheets.specs.Columns.{entryOf}
+use Rattle.worksheets.proofs.Laws.{own-mark, mark-ready}
 use Rattle.worksheets.proofs.caught.Statement.{statement}
 use Rattle.worksheets.proofs.caught.Tie as tie
 
@@ -37,11 +37,10 @@ module _ {ρ : Ranking} {w : Word} {m : ℕ} {own marks : List ℕ} (a : Alphabe
       (le-leb (length w) (i + j + suc (length (drop (suc j) w))) (omega (arith, length-drop (suc j) w, a .long)))
 
   -- so the letter's mark decides, or the rest does
-  mark-tells : tiedTo ρ w (i + j) j ≡ cond (eqb (getD marks (4 * (i + j) + getD own j 0) 0) 1) (tiedTo ρ w (suc (i + j)) (suc j)) (eqb (getD marks (4 * (i + j) + getD own j 0) 0) 0)
-  mark-tells =
+  mark-tells : {mark : ℕ} → mark ≡ entryOf (i + j) j own marks → tiedTo ρ w (i + j) j ≡ cond (eqb mark 1) (tiedTo ρ w (suc (i + j)) (suc j)) (eqb mark 0)
+  mark-tells e =
       letter-read ∙ go (ltb (ρ (i + j) (getD w j 0)) (ρ (i + j) (getD w (i + j) 0))) refl (eqb (ρ (i + j) (getD w j 0)) (ρ (i + j) (getD w (i + j) 0))) refl
-      ∙ sym (ap (λ (k : ℕ). cond (eqb k 1) (tiedTo ρ w (suc (i + j)) (suc j)) (eqb k 0))
-      (ap (λ (b : ℕ). getD marks (4 * (i + j) + b) 0) (own-at a j (omega (arith, a .few))) ∙ mark-at a (i + j) (getD w j 0) h (letter-lt w j (a .letters))))
+      ∙ sym (ap (λ (k : ℕ). cond (eqb k 1) (tiedTo ρ w (suc (i + j)) (suc j)) (eqb k 0)) (e ∙ own-mark a i j h))
     where
       go : (s : Bool) → ltb (ρ (i + j) (getD w j 0)) (ρ (i + j) (getD w (i + j) 0)) ≡ s → (t : Bool) → eqb (ρ (i + j) (getD w j 0)) (ρ (i + j) (getD w (i + j) 0)) ≡ t
           → (s || (eqb (getD w j 0) (getD w (i + j) 0) && tiedTo ρ w (suc (i + j)) (suc j)))
@@ -56,9 +55,23 @@ module _ {ρ : Ranking} {w : Word} {m : ℕ} {own marks : List ℕ} (a : Alphabe
           ap (λ (x : Bool). x && tiedTo ρ w (suc (i + j)) (suc j))
           (ne-eqb (getD w j 0) (getD w (i + j) 0) (λ e. eqb-false (ρ (i + j) (getD w j 0)) (ρ (i + j) (getD w (i + j) 0)) q (ap (ρ (i + j)) e)))
 
+  -- a letter that is not w's own decides
+  mark-decides : {mark : ℕ} → tiedTo ρ w i 0 ≡ tiedTo ρ w (i + j) j → mark ≡ entryOf (i + j) j own marks → (mark ≡ 1 → ⊥) → eqb mark 0 ≡ tiedTo ρ w i 0
+  mark-decides {mark} q e n =
+      sym (q ∙ mark-tells e ∙ ap (λ (t : Bool). cond t (tiedTo ρ w (suc (i + j)) (suc j)) (eqb mark 0)) (ne-eqb mark 1 n))
+
+  -- w's own letter leaves it to the rest
+  mark-leaves : {mark : ℕ} → tiedTo ρ w i 0 ≡ tiedTo ρ w (i + j) j → mark ≡ entryOf (i + j) j own marks → mark ≡ 1 → tiedTo ρ w i 0 ≡ tiedTo ρ w (i + (j + 1)) (j + 1)
+  mark-leaves {mark} q e s =
+      let on : suc (i + j) ≡ i + (j + 1) = omega arith in
+      q
+      ∙ mark-tells e
+      ∙ ap (λ (t : Bool). cond t (tiedTo ρ w (suc (i + j)) (suc j)) (eqb mark 0)) (eq-eqb mark 1 s)
+      ∙ ap₂ (λ (l p : ℕ). tiedTo ρ w l p) on (sym (add-one j))
+
 -- at the end of w all is tied
-all-tied : (ρ : Ranking) (w : Word) (l j : ℕ) → l ≡ length w → tiedTo ρ w l j ≡ true
-all-tied ρ w l j e = ap (λ (u : Word). caught w (belowHit ρ w) true l u (drop j w)) (ap (λ (n : ℕ). drop n w) e ∙ drop-length w)
+all-tied : (ρ : Ranking) (w : Word) (i l j : ℕ) → tiedTo ρ w i 0 ≡ tiedTo ρ w l j → l ≡ length w → true ≡ tiedTo ρ w i 0
+all-tied ρ w i l j q e = sym (q ∙ ap (λ (u : Word). caught w (belowHit ρ w) true l u (drop j w)) (ap (λ (n : ℕ). drop n w) e ∙ drop-length w))
 
 abbrev Inv-loop : tie.InvT-loop
 Inv-loop m i own marks j₀ j = (i + j ≤ m) × All (λ ρ w. AlphabetsOf ρ w m own marks) (λ ρ w. tiedTo ρ w i 0 ≡ tiedTo ρ w (i + j) j)
@@ -74,67 +87,35 @@ loop-holds c =
 add-loop : tie.Need-add-loop Inv-loop μ-loop
 add-loop c = omega (arith, c .before .pre .0 .2 .few)
 
-element-copy-out-letter : tie.Need-element-copy-out-letter Inv-loop μ-loop
-element-copy-out-letter c = omega (arith, c .before .before .pre .0 .2 .few)
+add-own-entry : tie.Need-add-own-entry Inv-loop μ-loop
+add-own-entry c = omega (arith, c .before .before .pre .0 .2 .few)
 
-cast-letter : tie.Need-cast-letter Inv-loop μ-loop
-cast-letter c =
-    let a = c .before .before .before .pre .0 .2 in
-    omega (arith, own-lt a (c .before .before .loop .j) (omega (arith, a .few)))
-
-add-mark : tie.Need-add-mark Inv-loop μ-loop
-add-mark c = omega (arith, c .before .before .before .pre .0 .2 .few)
-
-mul-mark : tie.Need-mul-mark Inv-loop μ-loop
-mul-mark c = omega (arith, c .before .before .before .pre .0 .2 .few)
-
-add-mark-2 : tie.Need-add-mark-2 Inv-loop μ-loop
-add-mark-2 c =
-    let a = c .before .before .before .pre .0 .2 in
-    omega (arith, a .few, own-lt a (c .before .before .loop .j) (omega (arith, a .few)))
-
-element-copy-out-mark : tie.Need-element-copy-out-mark Inv-loop μ-loop
-element-copy-out-mark c =
-    let a = c .before .before .before .pre .0 .2 in
-    omega (arith, a .few, own-lt a (c .before .before .loop .j) (omega (arith, a .few)))
+own-entry-requires : tie.Need-own-entry-requires Inv-loop μ-loop
+own-entry-requires c κs = mark-ready (c .before .before .pre .0 .2) (c .before .before .args .i) (c .before .loop .j) (c .loop-test .taken)
 
 returns : tie.Need-returns Inv-loop μ-loop
 returns c =
-    let at = c .before .before .before .before .loop in
-    let start = c .before .before .before .before .before in
-    λ ρ w a.
-    let i = start .args .i in
-    let mark = getD (start .args .marks .now) (4 * (i + at .j) + getD (start .args .own .now) (at .j) 0) 0 in
-    sym (at .inv .1 ρ w a
-    ∙ mark-tells a i (at .j) (c .before .before .before .loop-test .taken)
-    ∙ ap (λ (t : Bool). cond t (tiedTo ρ w (suc (i + at .j)) (suc (at .j))) (eqb mark 0)) (ne-eqb mark 1 (c .if1 .taken)))
+    let at = c .before .before .before .loop in
+    λ ρ w a. mark-decides a (c .before .before .before .before .args .i) (at .j) (c .before .before .loop-test .taken) (at .inv .1 ρ w a) (c .before .own-entry .ensures) (c .if1 .taken)
 
 add-j : tie.Need-add-j Inv-loop μ-loop
-add-j c = omega (arith, c .before .before .before .before .before .pre .0 .2 .few)
+add-j c = omega (arith, c .before .before .before .before .pre .0 .2 .few)
 
 loop-less : tie.Need-loop-less Inv-loop μ-loop
 loop-less c = search needs
 
 loop-again : tie.Need-loop-again Inv-loop μ-loop
 loop-again c =
-    let at = c .before .before .before .before .loop in
-    let start = c .before .before .before .before .before in
-    let i = start .args .i in
-    let mark = getD (start .args .marks .now) (4 * (i + at .j) + getD (start .args .own .now) (at .j) 0) 0 in
-    let on : suc (i + at .j) ≡ i + (at .j + 1) = omega arith in (
+    let at = c .before .before .before .loop in (
       omega arith,
-      λ ρ w a.
-          at .inv .1 ρ w a
-          ∙ mark-tells a i (at .j) (c .before .before .before .loop-test .taken)
-          ∙ ap (λ (t : Bool). cond t (tiedTo ρ w (suc (i + at .j)) (suc (at .j))) (eqb mark 0)) (eq-eqb mark 1 (c .if1 .left))
-          ∙ ap₂ (λ (l j : ℕ). tiedTo ρ w l j) on (sym (add-one (at .j))),
+      λ ρ w a. mark-leaves a (c .before .before .before .before .args .i) (at .j) (c .before .before .loop-test .taken) (at .inv .1 ρ w a) (c .before .own-entry .ensures) (c .if1 .left),
     )
 
 returns-2 : tie.Need-returns-2 Inv-loop μ-loop
 returns-2 c =
     let at = c .before .loop in
     let i = c .before .before .args .i in
-    λ ρ w a. sym (at .inv .1 ρ w a ∙ all-tied ρ w (i + at .j) (at .j) (omega (arith, a .long)))
+    λ ρ w a. all-tied ρ w i (i + at .j) (at .j) (at .inv .1 ρ w a) (omega (arith, a .long))
 
 pub caught-spec : {M : Type 1} → statement M
 caught-spec =
@@ -144,12 +125,8 @@ caught-spec =
     μ-loop
     loop-holds
     add-loop
-    element-copy-out-letter
-    cast-letter
-    add-mark
-    mul-mark
-    add-mark-2
-    element-copy-out-mark
+    add-own-entry
+    own-entry-requires
     returns
     add-j
     loop-less

@@ -1,7 +1,7 @@
 -- `worksheets::worksheet` meets its contract: refused, it gives the answer under the number of refusal; else the states that were prepared are those
 -- of the word under the key, and the sheet made of them is the worksheet.
 -- Assumes nothing.
-use Prim.Native.Nat.{ℕ, zero, suc, _≤_}
+use Prim.Native.Nat.{ℕ, zero, suc}
 use mathlib.Core.Path.{_≡_, refl, sym, ap, _∙_}
 use borrow.Author.Needs.{needs}
 use lib.ListN.{replicate}
@@ -68,7 +68,7 @@ unfolding worksheetOutcome worksheetAnswer
 returns-2 c =
     let args = c .before .before .before .before .args in
     let sheet = c .sheet-of .ensures (keyRanking (wordOf (args .m) (args .key))) (wordOf (args .m) (args .word)) (stated (c .before)) in
-    rw (none (c .before), keyed-ranked (wordOf (args .m) (args .key)), sheet .antemers-are, sheet .postmers-are)
+    rw (none (c .before), keyed-ranked (wordOf (args .m) (args .key)), sheet .antemers-are .is, sheet .postmers-are .is)
 
 pub worksheet-spec : {M : Type 1} → statement M
 worksheet-spec = tie.close (tie.spec prepare-requires returns sheet-of-requires returns-2)
