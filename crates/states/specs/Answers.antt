@@ -4,7 +4,7 @@ use Prim.Native.Nat.{ℕ, zero, suc}
 use mathlib.Core.List.{List, [], _∷_}
 use mathlib.Core.Path.{_≡_, refl, ap}
 use native.Mathlib.Omega.{arith}
-use lib.ListN.{replicate}
+use lib.ListN.{replicate, take}
 use Rattle.definitions.specs.Words.{Word, word as wordOf}
 use Rattle.definitions.specs.Refusals.{refusal}
 use Rattle.definitions.specs.Outcomes.{shelfGrounds}
@@ -37,6 +37,14 @@ prepareAnswer (suc r) ρ w = record { refusal = suc r; own = replicate 32 0; mar
 unfoldable pub prepareOutcome : ℕ → ℕ → ℕ → ℕ → Prepared
 unfolding prepareAnswer
 prepareOutcome k m key w = prepareAnswer (refusal (shelfGrounds k m key w)) (keyRanking (wordOf m key)) (wordOf m w)
+
+-- case W3, key TAA and word AAA: at the first place A ranks above C, G and T, and at the others below them; so A leads on, to state 3 at
+-- most, each other letter leads back to state 0, and is banned as soon as three letters are left
+pub prepare-case : (take 16 (prepareOutcome 4 3 48 0 .marks) ≡ 1 ∷ 0 ∷ 0 ∷ 0 ∷ 1 ∷ 2 ∷ 2 ∷ 2 ∷ 1 ∷ 2 ∷ 2 ∷ 2 ∷ 2 ∷ 2 ∷ 2 ∷ 2 ∷ [])
+    × (take 16 (prepareOutcome 4 3 48 0 .next) ≡ 1 ∷ 0 ∷ 0 ∷ 0 ∷ 2 ∷ 0 ∷ 0 ∷ 0 ∷ 3 ∷ 0 ∷ 0 ∷ 0 ∷ 3 ∷ 0 ∷ 0 ∷ 0 ∷ [])
+    × (take 16 (prepareOutcome 4 3 48 0 .ban) ≡ 64 ∷ 3 ∷ 3 ∷ 3 ∷ 64 ∷ 3 ∷ 3 ∷ 3 ∷ 64 ∷ 3 ∷ 3 ∷ 3 ∷ 64 ∷ 3 ∷ 3 ∷ 3 ∷ [])
+unfolding prepareOutcome prepareAnswer
+prepare-case = (refl, refl, refl)
 
 -- what preparing answered
 abbrev pub prepared : answer.Prepared → Prepared

@@ -1,5 +1,6 @@
 -- `worksheets::postmers` meets its contract: what the column counts are the postmers.
 -- Assumes nothing.
+use native.Mathlib.Omega.{arith}
 use borrow.Author.Needs.{needs}
 use Rattle.laws.specs.Tables.{postmerWays}
 use Rattle.worksheets.proofs.Laws.{moves-bans}
@@ -19,7 +20,7 @@ sub-lesser c = search needs
 sub-lesser-2 : tie.Need-sub-lesser-2
 sub-lesser-2 c =
     let known = c .before .pre .0 in
-    lasts-some (moves-bans (known .2)) (c .lasts .ensures (known .0) (known .1) (moves-bans (known .2)))
+    omega (arith, lasts-some (moves-bans (known .2)) (c .lasts .ensures (known .0) (known .1) (moves-bans (known .2))))
 
 lesser-requires : tie.Need-lesser-requires
 lesser-requires c κs = search needs

@@ -63,7 +63,7 @@ products-requires c κs =
 
 returns-2 : tie.Need-returns-2
 unfolding sizeOutcome sizeAnswer
-returns-2 c = rw (none (c .before), c .products .ensures, summed (c .before))
+returns-2 c = rw (none (c .before)) (ap (λ (n : ℕ). record { refusal = 0; count = n }) (c .products .ensures ∙ summed (c .before)))
 
 pub size-spec : {M : Type 1} → statement M
 size-spec = tie.close (tie.spec worksheet-requires returns sub-products products-requires returns-2)

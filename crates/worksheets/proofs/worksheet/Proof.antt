@@ -2,7 +2,8 @@
 -- of the word under the key, and the sheet made of them is the worksheet.
 -- Assumes nothing.
 use Prim.Native.Nat.{ℕ, zero, suc}
-use mathlib.Core.Path.{_≡_, refl, sym, ap, _∙_}
+use mathlib.Core.List.{List}
+use mathlib.Core.Path.{_≡_, refl, sym, ap, ap₂, _∙_}
 use borrow.Author.Needs.{needs}
 use lib.ListN.{replicate}
 use Rattle.definitions.specs.Words.{Word, word as wordOf}
@@ -68,7 +69,8 @@ unfolding worksheetOutcome worksheetAnswer
 returns-2 c =
     let args = c .before .before .before .before .args in
     let sheet = c .sheet-of .ensures (keyRanking (wordOf (args .m) (args .key))) (wordOf (args .m) (args .word)) (stated (c .before)) in
-    rw (none (c .before), keyed-ranked (wordOf (args .m) (args .key)), sheet .antemers-are .is, sheet .postmers-are .is)
+    rw (none (c .before), keyed-ranked (wordOf (args .m) (args .key)))
+    (ap₂ (λ (a p : List ℕ). record { refusal = 0; antemers = a; postmers = p }) (sheet .antemers-are .is) (sheet .postmers-are .is))
 
 pub worksheet-spec : {M : Type 1} → statement M
 worksheet-spec = tie.close (tie.spec prepare-requires returns sheet-of-requires returns-2)
