@@ -1,16 +1,16 @@
 -- Room that is written entry by entry, and positions as bytes.
 -- Assumes nothing.
-use Prim.Native.Nat.{ℕ, zero, suc, _+_, _*_, _≤_, _<_}
+use Prim.Native.Nat.{ℕ, suc, _+_, _*_, _≤_, _<_}
 use mathlib.Core.List.{List, [], _∷_, _++_}
 use mathlib.Core.Path.{_≡_, refl, sym, ap, _∙_}
 use native.Mathlib.Numerals.{add-one}
 use native.Mathlib.Omega.{arith}
 use lib.ListN.{length, getD, set, take, drop}
 use lib.Seq.{length-take-le, drop-cons, drop-drop, take-add, take-at, drop-at, take-length, length-front, sets, sets-eq}
-use Rattle.definitions.specs.Lists.{over, tabulate}
+use Rattle.definitions.specs.Lists.{over}
 use Rattle.definitions.specs.Words.{bytes}
 use Rattle.definitions.specs.Outcomes.{asBytes}
-use Rattle.laws.specs.Filters.{joined, length-joined-even, joined-at, tabulate-agree}
+use Rattle.laws.specs.Filters.{joined, length-joined-even, joined-at}
 use Rattle.laws.specs.Numbers.{length-digits}
 
 module _ {A : Type 0} where
@@ -41,13 +41,6 @@ module _ {A : Type 0} where
     -- all is written
     pub overTo-all : {i : ℕ} {room : List A} → room ≡ overTo i new old → i ≡ length new → room ≡ over new old
     overTo-all e q = rw (q, take-length) at e
-
--- where the entries from i on are as they should be, the first i are all that is to be written
-pub overTo-rest : {A : Type 0} (f g : ℕ → A) (n i : ℕ) → ((p : ℕ) → i ≤ p → p < n → g p ≡ f p) → overTo i (tabulate f n) (tabulate g n) ≡ tabulate f n
-overTo-rest f g n zero h = tabulate-agree n (λ p k. h p (omega arith) k)
-overTo-rest f g zero (suc i) h = refl
-overTo-rest {A} f g (suc n) (suc i) h =
-    ap (λ (l : List A). f zero ∷ l) (overTo-rest (λ p. f (suc p)) (λ p. g (suc p)) n i (λ p k l. h (suc p) (omega arith) (omega arith)))
 
 -- ---- numbers as bytes
 

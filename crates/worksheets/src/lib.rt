@@ -1,8 +1,8 @@
 // Worksheets: the antemers and postmers behind the size of a shelf, counted by states, and the size. Assumes nothing.
 //
 // Antemers and postmers are counted alike: the ways to complete a state by r letters are the sum, over the letters that are not banned there, of
-// the ways to complete the next state by one letter less. Document 01's counts by shared prefix come back so: the words that share i letters
-// with w are those that reach state i, and its "antemers T−1 shorter that share at least i−T+2 letters" are the ways from the next state. After an
+// the ways to complete the next state by one letter less. Document 01's counts by shared prefix come back so: a word that begins with i letters of
+// w goes on by one of the ways from state i, and "antemers T−1 shorter that share at least i−T+2 letters" are the ways from the next state. After an
 // antemer stands w, so every m-mer that begins in it exists, and state m has no way on: w would stand there too soon. After a postmer
 // stands nothing, so only an m-mer for which letters are left exists, and where none can exist any more the ways are a power of four.
 ghost use mathlib.Core.Path.{_≡_};
