@@ -4,6 +4,8 @@
 
 #![forbid(unsafe_code)]
 
+use crate::sizes::served;
+
 /// A set of letters: bit b stands for the letter with the code b.
 type Letters = u8;
 
@@ -30,33 +32,19 @@ type Part = [u64; 33];
 
 /// The size, each entry of both tables with its loop over j.
 pub fn size(k: u64, m: u64, key: u64, word: u64) -> u64 {
-    served(k, m, key, word, Rules::antemers)
+    served(k, m, key, word, || {
+        let rules = Rules::new(k as usize, m as usize, key, word);
+        rules.with_postmers(&rules.antemers())
+    })
 }
 
 /// The size, with the loops over j for antemers done once for each i, as Lemma 9 of the source allows; those for
 /// postmers stay, as they depend on the length.
 pub fn prepared_size(k: u64, m: u64, key: u64, word: u64) -> u64 {
-    served(k, m, key, word, Rules::prepared_antemers)
-}
-
-/// The size by this count of antemers, or the answer of the first refusal that applies.
-#[inline(always)]
-fn served(k: u64, m: u64, key: u64, word: u64, antemers: impl Fn(&Rules) -> [u64; 32]) -> u64 {
-    let refused = |refusal: u64| (1 << 63) + 65_536 * refusal;
-    if k == 0 || k > 31 {
-        return refused(1);
-    }
-    if m == 0 || m > k {
-        return refused(2);
-    }
-    if key >> (2 * m) != 0 {
-        return refused(3);
-    }
-    if word >> (2 * m) != 0 {
-        return refused(4);
-    }
-    let rules = Rules::new(k as usize, m as usize, key, word);
-    rules.with_postmers(&antemers(&rules))
+    served(k, m, key, word, || {
+        let rules = Rules::new(k as usize, m as usize, key, word);
+        rules.with_postmers(&rules.prepared_antemers())
+    })
 }
 
 /// What the rules ask of the word and the key. No index passes 31, and `& 31` tells the compiler so.

@@ -5,6 +5,7 @@
 
 #![forbid(unsafe_code)]
 
+use crate::sizes::served;
 use std::cell::RefCell;
 
 /// Numbers by the length of a word, and then by how many letters it shares with w at least.
@@ -25,20 +26,9 @@ thread_local! {
 
 /// The size, or the answer of the first refusal that applies.
 pub fn size(k: u64, m: u64, key: u64, word: u64) -> u64 {
-    let refused = |refusal: u64| (1 << 63) + 65_536 * refusal;
-    if k == 0 || k > 31 {
-        return refused(1);
-    }
-    if m == 0 || m > k {
-        return refused(2);
-    }
-    if key >> (2 * m) != 0 {
-        return refused(3);
-    }
-    if word >> (2 * m) != 0 {
-        return refused(4);
-    }
-    TABLES.with_borrow_mut(|tables| Rules::new(m as usize, key, word).size(k as usize, tables))
+    served(k, m, key, word, || {
+        TABLES.with_borrow_mut(|tables| Rules::new(m as usize, key, word).size(k as usize, tables))
+    })
 }
 
 /// What the rules ask of the word and the key.

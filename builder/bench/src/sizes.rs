@@ -1,6 +1,6 @@
 //! Checks the sizes against the independent counts and measures them.
 
-use crate::{counts, masks, paper, Numbers, HUGE, REFUSED_1, REFUSED_2, REFUSED_3};
+use crate::{counts, masks, paper, Numbers, HUGE, REFUSED_1, REFUSED_2, REFUSED_3, REFUSED_4};
 use std::hint::black_box;
 use std::process::exit;
 use std::time::Instant;
@@ -37,6 +37,22 @@ fn contenders() -> Vec<Contender> {
     ]
 }
 
+/// The count of a rival, or the answer of the first refusal that applies.
+#[inline(always)]
+pub fn served(k: u64, m: u64, key: u64, word: u64, count: impl FnOnce() -> u64) -> u64 {
+    if k == 0 || k > 31 {
+        REFUSED_1
+    } else if m == 0 || m > k {
+        REFUSED_2
+    } else if key >> (2 * m) != 0 {
+        REFUSED_3
+    } else if word >> (2 * m) != 0 {
+        REFUSED_4
+    } else {
+        count()
+    }
+}
+
 // ---- checking
 
 /// Answers how many checks passed.
@@ -58,8 +74,6 @@ fn known(what: &str, k: u64, m: u64, key: u64, word: u64, expected: u64) -> u64 
     contenders.len() as u64
 }
 
-const REFUSED_4: u64 = 0x8000_0000_0004_0000;
-
 fn check_refused() -> u64 {
     let k = [0, 32, 33, 64, 1 << 32, (1 << 32) + 5, 1 << 63, HUGE].map(|k| known("k", k, 1, 0, 0, REFUSED_1));
     let m = [0, 6, 31, 32, 33, 64, 1 << 32, (1 << 32) + 2, 1 << 63, HUGE].map(|m| known("m", 5, m, 0, 0, REFUSED_2));
@@ -71,7 +85,7 @@ fn check_refused() -> u64 {
     [&k[..], &m, &key, &word, &long].concat().iter().sum()
 }
 
-/// Where two refusals that are neighbours apply, the first is answered.
+/// Where several refusals apply, the first is answered.
 fn check_first_of_two() -> u64 {
     [
         known("1 and 2", 0, 0, 0, 0, REFUSED_1),
@@ -83,7 +97,7 @@ fn check_first_of_two() -> u64 {
         known("2 and 3", 5, 6, HUGE, 0, REFUSED_2),
         known("2, 3 and 4, all huge", 5, HUGE, HUGE, HUGE, REFUSED_2),
         known("2 and 4", 5, 0, 0, 1, REFUSED_2),
-        known("2 and 3", 31, 32, HUGE, HUGE, REFUSED_2),
+        known("2, 3 and 4", 31, 32, HUGE, HUGE, REFUSED_2),
         known("3 and 4", 3, 2, 16, 16, REFUSED_3),
         known("3 and 4, both huge", 5, 2, HUGE, HUGE, REFUSED_3),
         known("3 and 4 of 31 letters", 31, 31, 1 << 62, 1 << 62, REFUSED_3),
@@ -119,7 +133,7 @@ const CALLS: usize = 262_144;
 /// 64 inputs, of which the processor learns the branches, and so many that it learns few.
 const INPUTS: [usize; 2] = [64, 4_096];
 
-/// Keys and words: half of them without a form, half short repeats under keys of both kinds.
+/// Keys and words: half of the words without a form, half short repeats, these under keys of both kinds.
 fn inputs(number: usize, m: u64) -> Vec<(u64, u64)> {
     let mut numbers = Numbers(0xD1B5_4A32_D192_ED03);
     let draw = |i: usize| match i % 4 {
