@@ -14,7 +14,7 @@ use lib.ListN.{length, getD, drop}
 use lib.Seq.{take-length}
 use Rattle.definitions.specs.Lists.{total}
 use Rattle.definitions.specs.Words.{Word, letters}
-use Rattle.laws.specs.Tests.{and-l, and-r, and-i, and-none, not-or, test-ext, leb-cong}
+use Rattle.laws.specs.Tests.{and-l, and-r, and-none, not-or, leb-cong, leb-min}
 use Rattle.laws.specs.Places.{anyTo, anyTo-cong, anyTo-none, anyTo-last, anyTo-stop}
 use Rattle.laws.specs.Orders.{Ranking}
 use Rattle.laws.specs.States.{matches, first, next, matches-short, matches-all}
@@ -40,6 +40,7 @@ module _ (w : Word) (low : ℕ → ℕ → Bool) where
   abbrev pub ban : ℕ → ℕ → ℕ
   ban i b = banBelow (length w) (first w i) b
 
+  -- the m-mer with l letters is tied, exists with r letters left, and has b low
   hits : Word → ℕ → ℕ → ℕ → Bool
   hits past b r l = matches w l past && (leb (length w) (l + r) && low l b)
 
@@ -72,6 +73,7 @@ module _ (w : Word) (low : ℕ → ℕ → Bool) where
           (ap (λ (x : Bool). x && low l b) (lt-leb (length w) (l + r) (omega arith)))))
           ∙ sym (lt-ltb r (length w - n) (omega arith))
 
+  -- `ban-tells`, by the matches of fewer than n letters
   tells-to : (past : Word) (b r : ℕ) → r < never → (n : ℕ) → n ≤ length w → not (anyTo n (hits past b r)) ≡ ltb r (banBelow n past b)
   tells-to past b r h zero k = sym (lt-ltb r never h)
   tells-to past b r h (suc n) k =
@@ -100,9 +102,11 @@ module _ (w : Word) (low : ℕ → ℕ → Bool) where
           ap (λ (t : Bool). cond (t && low n b) (length w - n) (banBelow n (first w i) b)) (matches-short w i n k) ∙ rec k
       go false e rec = let q : n ≡ i = omega (arith, ltb-false i n e) in ap (λ (l : ℕ). banBelow (suc l) (first w i) b) q
 
+  -- longer matches change nothing
   ban-stop : (i b n : ℕ) → i < n → n ≤ length w → banBelow n (first w i) b ≡ ban i b
   ban-stop i b n h k = stop-at i b n h ∙ sym (stop-at i b (length w) (omega arith))
 
+  -- state i itself first, then its shorter matches
   ban-at : (i b : ℕ) → i ≤ length w → (t : Bool) → ltb i (length w) ≡ t → ban i b ≡ cond (t && low i b) (length w - i) (banBelow i (first w i) b)
   ban-at i b h true e =
       sym (ban-stop i b (suc i) (omega arith) (ltb-true i (length w) e))
@@ -119,6 +123,7 @@ module _ (w : Word) (low : ℕ → ℕ → Bool) where
           banBelow-cong (suc j) (first w (suc j)) (first w (fall w (suc j))) b (λ l q. matches-fall w j l (omega arith))
           ∙ ban-stop (fall w (suc j)) b (suc j) (omega (arith, fall-le w j)) k
 
+  -- shorter matches want more than the rest of w
   high-to : (past : Word) (j b n : ℕ) → length w ≤ 31 → j < length w → n ≤ j → length w - j < banBelow n past b
   high-to past j b zero m h k = omega arith
   high-to past j b (suc n) m h k = go (matches w n past && low n b) (high-to past j b n m h (omega arith))
@@ -135,6 +140,7 @@ module _ (w : Word) (low : ℕ → ℕ → Bool) where
       ∙ ap (λ (t : Bool). cond t (length w - j) (banBelow j (first w j) (getD w j 0))) (and-none (ltb j (length w)) (low j (getD w j 0)) e) in
       rw same-ban (high-to (first w j) j (getD w j 0) j m h (omega arith))
 
+  -- `ban-le`, by the matches of fewer than n letters
   below-never : (past : Word) (b n : ℕ) → length w ≤ 31 → banBelow n past b ≤ never
   below-never past b zero m = omega arith
   below-never past b (suc n) m = go (matches w n past && low n b) (below-never past b n m)
@@ -147,6 +153,7 @@ module _ (w : Word) (low : ℕ → ℕ → Bool) where
   pub ban-le : (i b : ℕ) → length w ≤ 31 → ban i b ≤ never
   ban-le i b m = below-never (first w i) b (length w) m
 
+  -- `ban-most`, by the matches of fewer than n letters
   below-most : (past : Word) (b n : ℕ) → banBelow n past b < never → banBelow n past b ≤ length w
   below-most past b zero h = absurd (omega arith)
   below-most past b (suc n) h = go (matches w n past && low n b) (below-most past b n) h
@@ -164,12 +171,6 @@ module _ (w : Word) (low : ℕ → ℕ → Bool) where
   abbrev pub lasts : ℕ → ℕ
   lasts zero = never
   lasts (suc j) = min (lasts j) (ban j (getD w j 0) + j - length w)
-
-ltb-min : (a x y : ℕ) → ltb a (min x y) ≡ (ltb a x && ltb a y)
-ltb-min a x y =
-    test-ext (ltb a (min x y)) (ltb a x && ltb a y)
-    (λ e. and-i (ltb a x) (ltb a y) (lt-ltb a x (omega (arith, ltb-true a (min x y) e))) (lt-ltb a y (omega (arith, ltb-true a (min x y) e))))
-    (λ e. lt-ltb a (min x y) (omega (arith, ltb-true a x (and-l (ltb a x) (ltb a y) e), ltb-true a y (and-r (ltb a x) (ltb a y) e))))
 
 -- ---- the tables
 
@@ -227,6 +228,7 @@ module _ (ρ : Ranking) (w : Word) where
           ∙ sym (anyTo-stop i (length w) (tied (fall w (suc i))) (omega arith)
           (λ l k j. ap (λ (t : Bool). t && ends (suc l)) (matches-short w (fall w (suc i)) (suc l) (omega (arith, fall-le w i)))))
 
+  -- `word-allowed`, by the first i letters
   first-allowed : (a : ℕ) → a + length w < never → (i n : ℕ) → i ≤ length w → n + i ≡ a + length w
       → allFine w (belowHit ρ w) false [] (first w i) n ≡ ltb a (lasts w (lowBy ρ w) i)
   first-allowed a h zero n k e = sym (lt-ltb a never (omega arith))
@@ -236,7 +238,7 @@ module _ (ρ : Ranking) (w : Word) where
       ∙ leb-cong (suc (suc n)) last (suc a) (last + i - length w) (λ q. omega arith) (λ q. omega arith))
       (first-allowed a h i (suc n) (omega arith) (omega arith))
       ∙ and-comm (ltb a (last + i - length w)) (ltb a (lasts w (lowBy ρ w) i))
-      ∙ sym (ltb-min a (lasts w (lowBy ρ w) i) (last + i - length w))
+      ∙ sym (leb-min (suc a) (lasts w (lowBy ρ w) i) (last + i - length w))
     where
       last : ℕ
       last = ban w (lowBy ρ w) i (getD w i 0)

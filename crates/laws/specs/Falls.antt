@@ -1,5 +1,5 @@
--- From a state to the ones below it: the state that state i falls to is the longest match of fewer than i letters within the first i
--- letters of w. It tells the shorter matches, so the next state is found from it where the letter is not w's own.
+-- From a state to the ones below it: the state that state i falls to is the longest match of fewer than i letters at the end of the
+-- first i letters of w. It tells the shorter matches, so the next state is found from it where the letter is not w's own.
 -- Assumes nothing.
 use Prim.Native.Nat.{ℕ, zero, suc, _≤_, _<_}
 use mathlib.Core.Bool.{Bool, true, false, cond, _&&_}
@@ -15,7 +15,7 @@ use Rattle.laws.specs.Tests.{and-l, and-r, and-i}
 use Rattle.laws.specs.States.{matches, first, longest, next, matches-long, matches-all, longest-matches, longest-le, longest-above, longest-tells, longest-cong, longest-is, next-le}
 
 module _ (w : Word) where
-  -- the longest match of fewer than i letters within the first i letters of w
+  -- the longest match of fewer than i letters at the end of the first i letters of w
   abbrev pub fall : ℕ → ℕ
   fall zero = zero
   fall (suc i) = longest w i (first w (suc i))

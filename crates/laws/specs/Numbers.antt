@@ -2,7 +2,7 @@
 -- Assumes nothing.
 use Prim.Native.Nat.{ℕ, zero, suc, _+_, _-_, _*_, _/_, _%_, _^_, _≤_, _<_, zero-le}
 use mathlib.Core.Bool.{Bool, true, false, not, _&&_, _||_}
-use mathlib.Core.List.{List, [], _∷_, _++_}
+use mathlib.Core.List.{List, [], _∷_, _++_, map}
 use mathlib.Core.Path.{_≡_, refl, sym, ap, ap₂, _∙_}
 use native.Mathlib.Nat.{zero-lt-suc, le-of-suc-le-suc, not-suc-le-zero, pow-zero, pow-succ', mod-lt, mod-one, one-le-pow, mod-eq-of-lt, zero-mul, zero-add, suc-ne-zero, suc-inj, sub-zero, zero-sub, suc-sub-suc, sub-add-cancel, sub-right-comm, div-div-eq-div-mul, mul-suc, pow-suc, add-zero, lt-of-le-of-lt, add-mul, mul-assoc, add-assoc, add-suc, suc-mul, mul-le-mul-right, le-of-lt}
 use native.Mathlib.Omega.{arith}
@@ -186,6 +186,10 @@ each-letter p e {a} h = all-tabulate p (λ i. i) 4 e a h
 -- the letters stand in their order
 pub letters-at : {a : ℕ} → a < 4 → getD letters a 0 ≡ a
 letters-at {a} h = eqb-true (getD letters a 0) a (each-letter (λ b. eqb (getD letters b 0) b) refl h)
+
+-- functions that agree at the letters have one row
+pub row-agree : {f g : ℕ → ℕ} → ((b : ℕ) → b < 4 → f b ≡ g b) → map f letters ≡ map g letters
+row-agree h = rw (h 0 (omega arith), h 1 (omega arith), h 2 (omega arith), h 3 (omega arith))
 
 -- the sum of two letters is a letter
 pub sum-lt : {a b : ℕ} → a < 4 → b < 4 → sum a b < 4

@@ -1,10 +1,11 @@
 -- Tests: what follows from a joined test, and when two words are one.
 -- Assumes nothing.
-use Prim.Native.Nat.{ℕ, _≤_}
+use Prim.Native.Nat.{ℕ, _≤_, min}
 use mathlib.Core.Bool.{Bool, true, false, not, _&&_, _||_, true≢false}
 use mathlib.Core.List.{[], _∷_}
 use mathlib.Core.Logic.{_⊎_, inl, inr}
 use mathlib.Core.Path.{_≡_, refl, sym, ap₂, subst, _∙_}
+use native.Mathlib.Omega.{arith}
 use borrow.Author.Tests.{eqb-true, eq-eqb, leb-true, le-leb}
 use lib.Dec.{eqb, leb}
 use Rattle.definitions.specs.Words.{Word, same}
@@ -88,6 +89,13 @@ test-ext false false f g = refl
 -- two comparisons are equal where each implies the other
 pub leb-cong : (a b c d : ℕ) → (a ≤ b → c ≤ d) → (c ≤ d → a ≤ b) → leb a b ≡ leb c d
 leb-cong a b c d f g = test-ext (leb a b) (leb c d) (λ e. le-leb c d (f (leb-true a b e))) (λ e. le-leb a b (g (leb-true c d e)))
+
+-- a number is at most the lesser of two exactly if it is at most each
+pub leb-min : (a x y : ℕ) → leb a (min x y) ≡ (leb a x && leb a y)
+leb-min a x y =
+    test-ext (leb a (min x y)) (leb a x && leb a y)
+    (λ e. and-i (leb a x) (leb a y) (le-leb a x (omega (arith, leb-true a (min x y) e))) (le-leb a y (omega (arith, leb-true a (min x y) e))))
+    (λ e. le-leb a (min x y) (omega (arith, leb-true a x (and-l (leb a x) (leb a y) e), leb-true a y (and-r (leb a x) (leb a y) e))))
 
 -- a test is not both
 pub contrary : (a : Bool) → a ≡ true → a ≡ false → ⊥

@@ -11,15 +11,14 @@ use lib.Dec.{leb}
 use lib.ListN.{length, getD}
 use lib.Seq.{sets}
 use Rattle.definitions.specs.Words.{Word, letters}
-use Rattle.laws.specs.Filters.{tabulate-at}
-use Rattle.laws.specs.Numbers.{letter-lt}
+use Rattle.laws.specs.Numbers.{row-agree}
 use Rattle.laws.specs.Orders.{Ranking}
 use Rattle.laws.specs.States.{first, next, longest-le}
 use Rattle.laws.specs.Falls.{fall, fallen, fall-le, fall-by-next}
 use Rattle.laws.specs.Bans.{never, ban, lowBy}
 use Rattle.states.specs.Grids.{grid, length-grid, grid-row, grid-at}
-use Rattle.states.specs.Tables.{rowOf, linkedRow, markAt, nextAt, banAt, AlphabetsOf, LinksOf}
-use Rattle.states.proofs.Rows.{row-agree, written, written-all, write-row}
+use Rattle.states.specs.Tables.{rowOf, linkedRow, markAt, nextAt, banAt, own-at, own-lt, AlphabetsOf, LinksOf}
+use Rattle.states.proofs.Rows.{written, written-all, write-row}
 use Rattle.states.proofs.Marks.{at-fall, next-by-mark, ban-by-mark}
 
 -- tables of which the rows below state i are written, and the state that state i falls to
@@ -63,34 +62,30 @@ module _ {ρ : Ranking} {w : Word} {m : ℕ} {own marks : List ℕ} (a : Alphabe
     (r : Reached ρ w i now nexts bans) (h : i ≤ m) where
   -- state i is one of w
   inside : i ≤ length w
-  inside = rw (a .long) h
+  inside = rw (a .word .long) h
 
   -- the state that it falls to has its row
   small : now < 32
-  small = omega (arith, r .falls inside, fall-most w i, a .few)
+  small = omega (arith, r .falls inside, fall-most w i, a .word .few)
 
-  -- what is read at place i is w's letter there
-  letter-is : getD own i 0 ≡ getD w i 0
-  letter-is = rw (a .owns) (tabulate-at (λ p. getD w p 0) 32 i 0 (omega (arith, a .few)))
-
-  -- which is a letter
-  letter-small : getD own i 0 < 4
-  letter-small = rw letter-is (letter-lt w i (a .letters))
+  -- and state i its own
+  row-here : i < 32
+  row-here = omega (arith, a .word .few)
 
   -- what is read for the state after i
   after-is : getD nexts (4 * now + getD own i 0) 0 ≡ fallen w 0 (λ s. next w s (getD w i 0)) i
   after-is =
       ap (λ (l : List ℕ). getD l (4 * now + getD own i 0) 0) (r .nextRows)
-      ∙ grid-at (written i (λ b. 0) (nextAt w)) now (getD own i 0) small letter-small
-      ∙ rw (letter-is, r .falls inside) (ap (λ (g : ℕ → ℕ). g (getD w i 0)) (at-fall w 0 (next w) i inside))
+      ∙ grid-at (written i (λ b. 0) (nextAt w)) now (getD own i 0) small (own-lt (a .word) i row-here)
+      ∙ rw (own-at (a .word) i row-here, r .falls inside) (ap (λ (g : ℕ → ℕ). g (getD w i 0)) (at-fall w 0 (next w) i inside))
 
   -- state i can be gone through
   pub going : Going m i now own marks nexts bans
   going = record {
-    few = a .few;
+    few = a .word .few;
     low = small;
-    letter = letter-small;
-    after = omega (arith, after-is, fallen-most w i (getD w i 0), a .long, a .few);
+    letter = own-lt (a .word) i row-here;
+    after = omega (arith, after-is, fallen-most w i (getD w i 0), a .word .long, a .word .few);
     markLong = ap length (a .ranks) ∙ length-grid (markAt ρ w);
     nextLong = ap length (r .nextRows) ∙ length-grid (written i (λ b. 0) (nextAt w));
     banLong = ap length (r .banRows) ∙ length-grid (written i (λ b. never) (banAt ρ w));
@@ -98,7 +93,7 @@ module _ {ρ : Ranking} {w : Word} {m : ℕ} {own marks : List ℕ} (a : Alphabe
 
   -- the marks of state i
   marks-here : {row : List ℕ} → row ≡ rowOf i marks → row ≡ map (markAt ρ w i) letters
-  marks-here e = e ∙ ap (rowOf i) (a .ranks) ∙ grid-row (markAt ρ w) i (omega (arith, a .few))
+  marks-here e = e ∙ ap (rowOf i) (a .ranks) ∙ grid-row (markAt ρ w) i row-here
 
   -- the row of the state that it falls to
   row-fallen : (d : ℕ) (f : ℕ → ℕ → ℕ) {table : List ℕ} → table ≡ grid (written i (λ b. d) (λ s b. cond (leb s (length w)) (f s b) d))
@@ -109,17 +104,17 @@ module _ {ρ : Ranking} {w : Word} {m : ℕ} {own marks : List ℕ} (a : Alphabe
 
   -- the row of next states of state i, by its marks and by that of the state that it falls to
   next-here : {here : List ℕ} → here ≡ rowOf i marks → linkedRow 1 (i + 1) here (rowOf now nexts) ≡ map (nextAt w i) letters
-  next-here p = rw (add-one, marks-here p, row-fallen 0 (next w) (r .nextRows)) (row-agree (λ b k. next-by-mark ρ w (a .one) (a .letters) i b inside k))
+  next-here p = rw (add-one, marks-here p, row-fallen 0 (next w) (r .nextRows)) (row-agree (λ b k. next-by-mark ρ w (a .one) (a .word .letters) i b inside k))
 
   -- and its row of bans
   ban-here : {here : List ℕ} → here ≡ rowOf i marks → linkedRow 0 (m - i) here (rowOf now bans) ≡ map (banAt ρ w i) letters
-  ban-here p = rw (marks-here p, row-fallen never (ban w (lowBy ρ w)) (r .banRows), ← a .long) (row-agree (λ b k. ban-by-mark ρ w i b inside))
+  ban-here p = rw (marks-here p, row-fallen never (ban w (lowBy ρ w)) (r .banRows), ← a .word .long) (row-agree (λ b k. ban-by-mark ρ w i b inside))
 
   -- one state more
   pub reached-more : {here nexts′ bans′ : List ℕ} → here ≡ rowOf i marks → nexts′ ≡ sets nexts (4 * i) (linkedRow 1 (i + 1) here (rowOf now nexts))
       → bans′ ≡ sets bans (4 * i) (linkedRow 0 (m - i) here (rowOf now bans)) → Reached ρ w (suc i) (getD nexts (4 * now + getD own i 0) 0) nexts′ bans′
   reached-more p s₁ s₂ = record {
-    nextRows = s₁ ∙ write-row (λ b. 0) (nextAt w) i (omega (arith, a .few)) (r .nextRows) (next-here p);
-    banRows = s₂ ∙ write-row (λ b. never) (banAt ρ w) i (omega (arith, a .few)) (r .banRows) (ban-here p);
+    nextRows = s₁ ∙ write-row (λ b. 0) (nextAt w) i row-here (r .nextRows) (next-here p);
+    banRows = s₂ ∙ write-row (λ b. never) (banAt ρ w) i row-here (r .banRows) (ban-here p);
     falls = λ k. after-is ∙ sym (fall-by-next w i k);
   }

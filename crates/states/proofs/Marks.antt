@@ -4,7 +4,7 @@ use Prim.Native.Nat.{ℕ, zero, suc, _-_, _≤_, _<_}
 use native.Mathlib.Omega.{arith}
 use mathlib.Core.Bool.{Bool, true, false, cond, _&&_}
 use mathlib.Core.Path.{_≡_, refl, sym, _∙_}
-use borrow.Author.Tests.{ltb-true, ne-eqb, lt-ltb, le-leb}
+use borrow.Author.Tests.{lt-ltb, le-leb}
 use lib.Dec.{ltb, leb, eqb}
 use lib.ListN.{length, getD}
 use Rattle.definitions.specs.Words.{Word, Letters}
@@ -13,26 +13,8 @@ use Rattle.laws.specs.Orders.{Ranking, OneToOne, rank-same}
 use Rattle.laws.specs.States.{next}
 use Rattle.laws.specs.Falls.{fall, fallen, fall-le, next-by-fall}
 use Rattle.laws.specs.Bans.{never, ban, lowBy, ban-by-fall}
-use Rattle.states.specs.Tables.{markOf, entryBy, markAt, nextAt, banAt}
+use Rattle.states.specs.Tables.{markOf, mark-equal, mark-below, entryBy, markAt, nextAt, banAt}
 use Rattle.states.proofs.Rows.{written}
-
--- a mark is 1 exactly where the ranks are equal
-mark-equal : (r o : ℕ) → eqb (markOf r o) 1 ≡ eqb r o
-mark-equal r o = go (ltb r o) (eqb r o) refl refl
-  where
-    go : (s t : Bool) → ltb r o ≡ s → eqb r o ≡ t → eqb (cond s 0 (cond t 1 2)) 1 ≡ t
-    go true t p q = sym (ne-eqb r o (λ e. omega (arith, ltb-true r o p))) ∙ q
-    go false true p q = refl
-    go false false p q = refl
-
--- a mark is 0 exactly where the rank is below
-mark-below : (r o : ℕ) → eqb (markOf r o) 0 ≡ ltb r o
-mark-below r o = go (ltb r o) (eqb r o)
-  where
-    go : (s t : Bool) → eqb (cond s 0 (cond t 1 2)) 0 ≡ s
-    go true t = refl
-    go false true = refl
-    go false false = refl
 
 -- of a table in which the rows below state i are written, the row of the state that it falls to; state 0 finds what stands there at first
 pub at-fall : (w : Word) (d : ℕ) (f : ℕ → ℕ → ℕ) (i : ℕ) → i ≤ length w

@@ -14,10 +14,6 @@ use Rattle.definitions.specs.Lists.{tabulate}
 use Rattle.definitions.specs.Words.{letters}
 use Rattle.states.specs.Grids.{grid}
 
--- functions that agree on the letters give one row
-pub row-agree : {f g : ℕ → ℕ} → ((b : ℕ) → b < 4 → f b ≡ g b) → map f letters ≡ map g letters
-row-agree h = rw (h 0 (omega arith), h 1 (omega arith), h 2 (omega arith), h 3 (omega arith))
-
 module _ {A : Type 0} where
   -- the first n of some entries, and d from there on
   abbrev pub written : ℕ → A → (ℕ → A) → ℕ → A

@@ -75,12 +75,15 @@ module _ (k m key w : ℕ) (z : refusal (shelfGrounds k m key w) ≡ 0) where
   prepared-alphabets =
       let order = word-accepted m k m key w z .order in
       record {
+        word =
+            record {
+              letters = digits-below four-pos m w;
+              long = length-digits 4 m w;
+              some = order .mSome;
+              few = omega (arith, order .mFits, order .kFew);
+              owns = ap (λ (o : Prepared). o .own) tables;
+            };
         one = keyed-one-to-one (wordOf m key) (digits-below four-pos m key);
-        letters = digits-below four-pos m w;
-        long = length-digits 4 m w;
-        some = order .mSome;
-        few = omega (arith, order .mFits, order .kFew);
-        owns = ap (λ (o : Prepared). o .own) tables;
         ranks = ap (λ (o : Prepared). o .marks) tables;
       }
 

@@ -1,13 +1,17 @@
 -- What the tables of the states of a word hold, over any ranking of the letters for each place.
 -- Assumes nothing.
 use Prim.Native.Nat.{ℕ, _*_, _≤_, _<_}
-use mathlib.Core.Bool.{cond}
+use mathlib.Core.Bool.{Bool, true, false, cond}
 use mathlib.Core.List.{List, map}
-use mathlib.Core.Path.{_≡_}
+use mathlib.Core.Path.{_≡_, refl, sym, ap, _∙_}
+use native.Mathlib.Omega.{arith}
+use borrow.Author.Tests.{ltb-true, ne-eqb}
 use lib.Dec.{ltb, leb, eqb}
 use lib.ListN.{length, getD, take, drop}
 use Rattle.definitions.specs.Lists.{tabulate}
 use Rattle.definitions.specs.Words.{Word, Letters, letters}
+use Rattle.laws.specs.Numbers.{letter-lt}
+use Rattle.laws.specs.Filters.{tabulate-at}
 use Rattle.laws.specs.Orders.{Ranking, OneToOne}
 use Rattle.laws.specs.States.{next}
 use Rattle.laws.specs.Bans.{never, ban, lowBy}
@@ -16,6 +20,24 @@ use Rattle.states.specs.Grids.{grid}
 -- how a rank stands beside that of w's own letter: 0 below, 1 equal, 2 above
 abbrev pub markOf : ℕ → ℕ → ℕ
 markOf rank own = cond (ltb rank own) 0 (cond (eqb rank own) 1 2)
+
+-- a mark is 1 exactly where the ranks are equal
+pub mark-equal : (r o : ℕ) → eqb (markOf r o) 1 ≡ eqb r o
+mark-equal r o = go (ltb r o) (eqb r o) refl refl
+  where
+    go : (s t : Bool) → ltb r o ≡ s → eqb r o ≡ t → eqb (cond s 0 (cond t 1 2)) 1 ≡ t
+    go true t p q = sym (ne-eqb r o (λ e. omega (arith, ltb-true r o p))) ∙ q
+    go false true p q = refl
+    go false false p q = refl
+
+-- a mark is 0 exactly where the rank is below
+pub mark-below : (r o : ℕ) → eqb (markOf r o) 0 ≡ ltb r o
+mark-below r o = go (ltb r o) (eqb r o)
+  where
+    go : (s t : Bool) → eqb (cond s 0 (cond t 1 2)) 0 ≡ s
+    go true t = refl
+    go false true = refl
+    go false false = refl
 
 -- what a table holds at a letter: `held` where its mark is the one asked for, else what it holds at the state that this one falls to
 abbrev pub entryBy : ℕ → ℕ → ℕ → ℕ → ℕ
@@ -50,7 +72,7 @@ markAt ρ w p b = cond (ltb p (length w)) (markOf (ρ p b) (ρ p (getD w p 0))) 
 abbrev pub nextAt : Word → ℕ → ℕ → ℕ
 nextAt w i b = cond (leb i (length w)) (next w i b) 0
 
--- the fewest letters left at which a letter is banned
+-- the fewest letters left at which a letter is banned; never where there is no state i
 abbrev pub banAt : Ranking → Word → ℕ → ℕ → ℕ
 banAt ρ w i b = cond (leb i (length w)) (ban w (lowBy ρ w) i b) never
 
@@ -66,14 +88,27 @@ All P Q = (ρ : Ranking) (w : Word) → P ρ w → Q ρ w
 
 -- ---- what holds of lists that are such tables
 
--- the special alphabets of a word of m letters
-pub record AlphabetsOf (ρ : Ranking) (w : Word) (m : ℕ) (own marks : List ℕ) : Type 0 where
-  pub one : OneToOne ρ
+-- w's own letters, of a word of m letters
+pub record LettersOf (w : Word) (m : ℕ) (own : List ℕ) : Type 0 where
   pub letters : Letters w
   pub long : length w ≡ m
   pub some : 0 < m
   pub few : m ≤ 31
   pub owns : own ≡ ownOf w
+
+module _ {w : Word} {m : ℕ} {own : List ℕ} (l : LettersOf w m own) where
+  -- w's own letter stands at its place
+  pub own-at : (p : ℕ) → p < 32 → getD own p 0 ≡ getD w p 0
+  own-at p h = ap (λ (x : List ℕ). getD x p 0) (l .owns) ∙ tabulate-at (λ q. getD w q 0) 32 p 0 h
+
+  -- what stands there is a letter
+  pub own-lt : (p : ℕ) → p < 32 → getD own p 0 < 4
+  own-lt p h = rw (own-at p h) (letter-lt w p (l .letters))
+
+-- the special alphabets of a word of m letters
+pub record AlphabetsOf (ρ : Ranking) (w : Word) (m : ℕ) (own marks : List ℕ) : Type 0 where
+  pub word : LettersOf w m own
+  pub one : OneToOne ρ
   pub ranks : marks ≡ grid (markAt ρ w)
 
 -- the next states and the bans

@@ -5,7 +5,7 @@
 //   a(i+1), Σ(i+1)      own[i] is w's letter at place i, from 0; marks, at row i and letter b, says whether b ranks below it, is it, or ranks
 //                       above it, that is lies in Σ(i+1). Σ(m+1) has all four letters, and so has every row from m on
 //   R(i,j) equal        a state tied with state i: the latest i−j+1 of the first i letters of w are its first ones. `fall` is the longest of
-//                       these below i, and what holds of the others holds of them at `fall`
+//                       these below i, and the others are tied with `fall` too
 //   T, and i−T+2        next, at row i and letter b: the state after b, the longest one that is still tied. Where b is w's own letter that is
 //                       i+1; else it is what follows from `fall`
 //   a letter is banned  where some tied m-mer exists and b ranks below w's letter in it. ban, at row i and letter b, has the fewest letters left,
@@ -16,7 +16,6 @@ ghost use Prim.Native.Nat.{_*_, _≤_, _<_};
 ghost use lib.ListN.{length};
 ghost use lib.Seq.{sets};
 ghost use Rattle.definitions.specs.Words.{word as wordOf};
-ghost use Rattle.laws.specs.Accepted.{ShelfAccepted};
 ghost use Rattle.laws.specs.Orders.{keyRanking};
 ghost use Rattle.states.specs.Tables.{rowOf, markOf, entryBy, linkedRow, Linking, Known, All, AlphabetsOf, LinksOf};
 ghost use Rattle.states.specs.Answers.{fourOf, prepareOutcome, prepared};
@@ -85,8 +84,8 @@ struct Alphabets {
 }
 
 // The special alphabets under a key, where the rank of a letter is its sum with the key's letter. What comes after reads no key.
-fn special_alphabets(k: u64, m: u64, key: u64, word: u64) -> Alphabets
-    requires { ⌜ ShelfAccepted k m key word ⌝ }
+fn special_alphabets(m: u64, key: u64, word: u64) -> Alphabets
+    requires { ⌜ (0 < m) × (m ≤ 31) ⌝ }
     ensures { λ r. ⌜ AlphabetsOf (keyRanking (wordOf m key)) (wordOf m word) m (r .own) (r .marks) ⌝ }
 {
     let mut own: [u8; 32] = [0; 32];
@@ -95,14 +94,14 @@ fn special_alphabets(k: u64, m: u64, key: u64, word: u64) -> Alphabets
     while p < m {
         let shift = 2 * (m - 1 - p);
         let letter = (word >> shift) % 4;
-        let turn = (key >> shift) % 4;
-        let rank = letter ^ turn;
+        let key_letter = (key >> shift) % 4;
+        let rank = letter ^ key_letter;
         own[p as usize] = letter as u8;
         let marked = Four {
-            a: mark(0 ^ turn, rank),
-            c: mark(1 ^ turn, rank),
-            g: mark(2 ^ turn, rank),
-            t: mark(3 ^ turn, rank),
+            a: mark(0 ^ key_letter, rank),
+            c: mark(1 ^ key_letter, rank),
+            g: mark(2 ^ key_letter, rank),
+            t: mark(3 ^ key_letter, rank),
         };
         put(marked, p, &mut marks);
         p += 1;
@@ -145,7 +144,7 @@ pub struct States {
 }
 
 // Goes through the states from 0 to m. A state's rows follow from its marks and from the rows of the state that it falls to; state 0 falls
-// to none, and finds in its own rows what they are set to at first: no letter leads on, and none is banned.
+// to none, and finds in its own rows what they are set to at first: every letter leads to state 0, and none is banned.
 fn link_states(m: u64, alphabets: Alphabets) -> States
     requires { ⌜ Known (λ ρ w. AlphabetsOf ρ w m (alphabets .own) (alphabets .marks)) ⌝ }
     ensures { λ r. ⌜ (r .own ≡ alphabets .own) × (r .marks ≡ alphabets .marks) × All (λ ρ w. AlphabetsOf ρ w m (alphabets .own) (alphabets .marks)) (λ ρ w. LinksOf ρ w (r .next) (r .ban)) ⌝ }
@@ -195,7 +194,7 @@ pub fn prepare(k: u64, m: u64, key: u64, word: u64) -> Prepared
             },
         };
     }
-    let alphabets = special_alphabets(k, m, key, word);
+    let alphabets = special_alphabets(m, key, word);
     Prepared {
         refusal: 0,
         states: link_states(m, alphabets),

@@ -14,6 +14,7 @@ use lib.ListN.{getD, set}
 use Rattle.definitions.specs.Lists.{tabulate}
 use Rattle.laws.specs.Tests.{leb-cong}
 use Rattle.laws.specs.Numbers.{four-pos}
+use Rattle.laws.specs.Bans.{never}
 use Rattle.worksheets.specs.Columns.{UpTo, PowersAre, leadsTo, AllowedBy, wayOf, sumOf, Written, RowReady, FreeReady, Counts, Countable, CountedBy, Filled, Turn, TurnReady, TurnDone, Turned}
 use Rattle.worksheets.proofs.Laws.{letters-agree}
 use Rattle.worksheets.proofs.Rows.{upTo-more, upTo-none}
@@ -53,7 +54,7 @@ module _ {W : ℕ → ℕ → ℕ} {m rows start follow live : ℕ} {first next 
     row-start = omega (arith, q .whole, q .few)
 
   -- which letters are allowed changes no more once as many letters are left as w has
-  bans-last : (i b left : ℕ) → i < live → b < 4 → left < 64 → ltb (min left m) (getD ban (4 * i + b) 0) ≡ ltb left (getD ban (4 * i + b) 0)
+  bans-last : (i b left : ℕ) → i < live → b < 4 → left < never → ltb (min left m) (getD ban (4 * i + b) 0) ≡ ltb left (getD ban (4 * i + b) 0)
   bans-last i b left h f k =
       ⊎-elim
       (λ l. leb-cong (suc (min left m)) (getD ban (4 * i + b) 0) (suc left) (getD ban (4 * i + b) 0) (λ x. omega arith) (λ x. omega arith))
@@ -159,7 +160,7 @@ module _ {W : ℕ → ℕ → ℕ} {first next ban : List ℕ} {m rows start fol
   turn-back = omega (arith, t .more)
 
   module _ {low needed : ℕ} (e : low ≡ min m (n + 1 + follow)) (f : needed ≡ min live (start + rows - n)) where
-    -- the states in which no m-mer can exist any more are states
+    -- m less this number can be taken
     pub turn-low : low ≤ m
     turn-low = omega arith
 

@@ -12,20 +12,20 @@ use lib.Dec.{ltb, eqb}
 use lib.ListN.{length, getD}
 use Rattle.definitions.specs.Lists.{tabulate, total}
 use Rattle.definitions.specs.Words.{Word, letters}
-use Rattle.laws.specs.Numbers.{letter-lt}
+use Rattle.laws.specs.Numbers.{letter-lt, row-agree}
 use Rattle.laws.specs.Filters.{tabulate-at}
 use Rattle.laws.specs.Orders.{Ranking}
 use Rattle.laws.specs.States.{next, next-le}
 use Rattle.laws.specs.Bans.{never, ban, lowBy, ban-own, ban-le}
 use Rattle.states.specs.Grids.{grid, grid-at}
-use Rattle.states.specs.Tables.{AlphabetsOf, markOf, markAt, nextAt, banAt}
-use Rattle.worksheets.specs.Columns.{LettersOf, BansOf, MovesOf, NextsOf, StatesOf, entryOf, EntryReady, PowersAre}
+use Rattle.states.specs.Tables.{markOf, markAt, nextAt, banAt, LettersOf, own-at, own-lt, AlphabetsOf}
+use Rattle.worksheets.specs.Columns.{BansOf, MovesOf, NextsOf, StatesOf, entryOf, EntryReady, PowersAre}
 
 -- ---- sums
 
 -- functions that agree at the letters have one sum over them
 pub letters-agree : (f g : ℕ → ℕ) → ((b : ℕ) → b < 4 → f b ≡ g b) → total (map f letters) ≡ total (map g letters)
-letters-agree f g h = rw (h 0 (omega arith), h 1 (omega arith), h 2 (omega arith), h 3 (omega arith))
+letters-agree f g h = ap total (row-agree {f = f} {g = g} h)
 
 -- ---- numbers that fit
 
@@ -59,10 +59,6 @@ powers-are e = record { each = λ n h. ap (λ (l : List ℕ). getD l n 0) e ∙ 
 
 -- what the states of a word say of fewer tables
 module _ {ρ : Ranking} {w : Word} {m : ℕ} {own : List ℕ} where
-  -- w's own letters, of the special alphabets
-  pub own-letters : {marks : List ℕ} → AlphabetsOf ρ w m own marks → LettersOf w m own
-  own-letters a = record { letters = a .letters; long = a .long; some = a .some; few = a .few; owns = a .owns }
-
   -- the bans, of where letters lead and are banned
   pub moves-bans : {nexts bans : List ℕ} → MovesOf ρ w m own nexts bans → BansOf ρ w m own bans
   moves-bans s = record { word = s .word; bans = s .links .bans }
@@ -70,7 +66,7 @@ module _ {ρ : Ranking} {w : Word} {m : ℕ} {own : List ℕ} where
   module _ {marks nexts bans : List ℕ} (s : StatesOf ρ w m own marks nexts bans) where
     -- where letters lead and are banned
     pub states-moves : MovesOf ρ w m own nexts bans
-    states-moves = record { one = s .alphabets .one; word = own-letters (s .alphabets); links = s .links }
+    states-moves = record { one = s .alphabets .one; word = s .alphabets .word; links = s .links }
 
     -- when they are banned
     pub states-bans : BansOf ρ w m own bans
@@ -81,42 +77,34 @@ module _ {ρ : Ranking} {w : Word} {m : ℕ} {own : List ℕ} where
     states-nexts = record { alphabets = s .alphabets; nexts = s .links .nexts }
 
 module _ {w : Word} {m : ℕ} {own : List ℕ} (l : LettersOf w m own) where
-  -- w's own letter stands at its place
-  own-at : (p : ℕ) → p < 32 → getD own p 0 ≡ getD w p 0
-  own-at p h = ap (λ (x : List ℕ). getD x p 0) (l .owns) ∙ tabulate-at (λ q. getD w q 0) 32 p 0 h
-
-  -- what stands there is a letter
-  own-lt : (p : ℕ) → p < 32 → getD own p 0 < 4
-  own-lt p h = rw (own-at p h) (letter-lt w p (l .letters))
-
   -- an entry for w's own letter
   own-entry : (table : List ℕ) (i p : ℕ) → p < 32 → entryOf i p own table ≡ getD table (4 * i + getD w p 0) 0
-  own-entry table i p h = ap (λ (b : ℕ). getD table (4 * i + b) 0) (own-at p h)
+  own-entry table i p h = ap (λ (b : ℕ). getD table (4 * i + b) 0) (own-at l p h)
 
   -- an entry can be read where it is small
   entry-ready : {table : List ℕ} {v : ℕ} (i p : ℕ) → i < 32 → p < 32 → entryOf i p own table ≡ v → v < 256 → EntryReady i p own table
-  entry-ready i p h k e f = record { inside = h; place = k; letter = own-lt p k; byte = omega (arith, e) }
+  entry-ready i p h k e f = record { inside = h; place = k; letter = own-lt l p k; byte = omega (arith, e) }
 
   -- the next state by a letter
-  pub next-at : {nexts : List ℕ} → nexts ≡ grid (nextAt w) → (i b : ℕ) → i ≤ m → b < 4 → getD nexts (4 * i + b) 0 ≡ next w i b
-  next-at e i b h k =
+  pub next-entry : {nexts : List ℕ} → nexts ≡ grid (nextAt w) → (i b : ℕ) → i ≤ m → b < 4 → getD nexts (4 * i + b) 0 ≡ next w i b
+  next-entry e i b h k =
       ap (λ (x : List ℕ). getD x (4 * i + b) 0) e
       ∙ grid-at (nextAt w) i b (omega (arith, l .few)) k
       ∙ ap (λ (t : Bool). cond t (next w i b) 0) (le-leb i (length w) (omega (arith, l .long)))
 
 module _ {ρ : Ranking} {w : Word} {m : ℕ} {own marks : List ℕ} (a : AlphabetsOf ρ w m own marks) (i j : ℕ) (h : i + j < m) where
   -- the mark, at a place further on, of w's own letter
-  pub own-mark : entryOf (i + j) j own marks ≡ markOf (ρ (i + j) (getD w j 0)) (ρ (i + j) (getD w (i + j) 0))
-  own-mark =
-      own-entry (own-letters a) marks (i + j) j (omega (arith, a .few))
+  pub mark-entry : entryOf (i + j) j own marks ≡ markOf (ρ (i + j) (getD w j 0)) (ρ (i + j) (getD w (i + j) 0))
+  mark-entry =
+      own-entry (a .word) marks (i + j) j (omega (arith, a .word .few))
       ∙ ap (λ (x : List ℕ). getD x (4 * (i + j) + getD w j 0) 0) (a .ranks)
-      ∙ grid-at (markAt ρ w) (i + j) (getD w j 0) (omega (arith, a .few)) (letter-lt w j (a .letters))
-      ∙ ap (λ (t : Bool). cond t (markOf (ρ (i + j) (getD w j 0)) (ρ (i + j) (getD w (i + j) 0))) 2) (lt-ltb (i + j) (length w) (omega (arith, a .long)))
+      ∙ grid-at (markAt ρ w) (i + j) (getD w j 0) (omega (arith, a .word .few)) (letter-lt w j (a .word .letters))
+      ∙ ap (λ (t : Bool). cond t (markOf (ρ (i + j) (getD w j 0)) (ρ (i + j) (getD w (i + j) 0))) 2) (lt-ltb (i + j) (length w) (omega (arith, a .word .long)))
 
   -- it can be read
   pub mark-ready : EntryReady (i + j) j own marks
   mark-ready =
-      entry-ready (own-letters a) (i + j) j (omega (arith, a .few)) (omega (arith, a .few)) own-mark
+      entry-ready (a .word) (i + j) j (omega (arith, a .word .few)) (omega (arith, a .word .few)) mark-entry
       (go (ltb (ρ (i + j) (getD w j 0)) (ρ (i + j) (getD w (i + j) 0))) (eqb (ρ (i + j) (getD w j 0)) (ρ (i + j) (getD w (i + j) 0))))
     where
       go : (s t : Bool) → cond s 0 (cond t 1 2) < 256
@@ -128,27 +116,27 @@ module _ {ρ : Ranking} {w : Word} {m : ℕ} {own marks nexts : List ℕ} (s : N
   -- where w's own letter leads
   pub own-next : entryOf i p own nexts ≡ next w i (getD w p 0)
   own-next =
-      own-entry (own-letters (s .alphabets)) nexts i p (omega (arith, s .alphabets .few))
-      ∙ next-at (own-letters (s .alphabets)) (s .nexts) i (getD w p 0) h (letter-lt w p (s .alphabets .letters))
+      own-entry (s .alphabets .word) nexts i p (omega (arith, s .alphabets .word .few))
+      ∙ next-entry (s .alphabets .word) (s .nexts) i (getD w p 0) h (letter-lt w p (s .alphabets .word .letters))
 
   -- it can be read
   pub next-ready : EntryReady i p own nexts
   next-ready =
-      entry-ready (own-letters (s .alphabets)) i p (omega (arith, s .alphabets .few)) (omega (arith, s .alphabets .few)) own-next
-      (omega (arith, next-le w i (getD w p 0), s .alphabets .few))
+      entry-ready (s .alphabets .word) i p (omega (arith, s .alphabets .word .few)) (omega (arith, s .alphabets .word .few)) own-next
+      (omega (arith, next-le w i (getD w p 0), s .alphabets .word .few))
 
 module _ {ρ : Ranking} {w : Word} {m : ℕ} {own bans : List ℕ} (s : BansOf ρ w m own bans) where
   -- the fewest letters left at which a letter is banned
-  pub ban-at : (i b : ℕ) → i ≤ m → b < 4 → getD bans (4 * i + b) 0 ≡ ban w (lowBy ρ w) i b
-  ban-at i b h k =
+  pub ban-entry : (i b : ℕ) → i ≤ m → b < 4 → getD bans (4 * i + b) 0 ≡ ban w (lowBy ρ w) i b
+  ban-entry i b h k =
       ap (λ (x : List ℕ). getD x (4 * i + b) 0) (s .bans)
       ∙ grid-at (banAt ρ w) i b (omega (arith, s .word .few)) k
-      ∙ ap (λ (t : Bool). cond t (ban w (lowBy ρ w) i b) 64) (le-leb i (length w) (omega (arith, s .word .long)))
+      ∙ ap (λ (t : Bool). cond t (ban w (lowBy ρ w) i b) never) (le-leb i (length w) (omega (arith, s .word .long)))
 
   module _ (j : ℕ) (h : j < m) where
     -- the fewest letters left at which w's own letter is banned
     pub own-ban : entryOf j j own bans ≡ ban w (lowBy ρ w) j (getD w j 0)
-    own-ban = own-entry (s .word) bans j j (omega (arith, s .word .few)) ∙ ban-at j (getD w j 0) (omega arith) (letter-lt w j (s .word .letters))
+    own-ban = own-entry (s .word) bans j j (omega (arith, s .word .few)) ∙ ban-entry j (getD w j 0) (omega arith) (letter-lt w j (s .word .letters))
 
     -- they are more than the rest of w
     pub own-later : m < ban w (lowBy ρ w) j (getD w j 0) + j

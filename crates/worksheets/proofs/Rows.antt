@@ -23,10 +23,11 @@ module _ {to : ℕ} {new : ℕ → ℕ} where
   written-none lo ways = record { long = refl; inside = λ i h k. absurd (omega arith); outside = λ p h. refl }
 
   module _ {lo hi i v : ℕ} {old ways : List ℕ} (s : Written lo hi to new old ways) (k : to + i < length ways) (e : v ≡ new i) where
-    -- the entry is there, and every other is as it was
+    -- every other entry is as it was
     set-at : (j : ℕ) → (j ≡ i → ⊥) → getD (set ways (to + i) v) (to + j) 0 ≡ getD ways (to + j) 0
     set-at j n = getD-set-other ways (to + i) (to + j) v 0 (λ r. n (omega arith))
 
+    -- the new entry is there, and the others that were written
     set-inside : (j : ℕ) → (t : Bool) → eqb j i ≡ t → ((j ≡ i → ⊥) → getD ways (to + j) 0 ≡ new j) → getD (set ways (to + i) v) (to + j) 0 ≡ new j
     set-inside j true q h = let same : j ≡ i = eqb-true j i q in rw same (getD-set-same ways (to + i) v 0 k ∙ e)
     set-inside j false q h = set-at j (eqb-false j i q) ∙ h (eqb-false j i q)

@@ -8,20 +8,21 @@ use mathlib.Core.Logic.{_⊎_, inl, inr}
 use mathlib.Core.Path.{_≡_, refl, sym, ap, ap₂, fun-ext, _∙_}
 use native.Mathlib.Nat.{add-zero}
 use native.Mathlib.Omega.{arith}
-use borrow.Author.Tests.{ltb-true, ltb-false, leb-true, eqb-true, lt-ltb, le-ltb, le-leb}
+use borrow.Author.Tests.{ltb-true, ltb-false, eqb-true, lt-ltb, le-ltb}
 use lib.Dec.{ltb, leb, eqb}
 use lib.ListN.{length, getD}
 use Rattle.definitions.specs.Lists.{total}
 use Rattle.definitions.specs.Words.{Word, letters}
 use Rattle.definitions.specs.Shelves.{row, antemers, postmers}
-use Rattle.laws.specs.Tests.{and-l, and-r, and-i, test-ext, leb-cong}
+use Rattle.laws.specs.Tests.{and-l, leb-cong, leb-min}
 use Rattle.laws.specs.Walks.{ways-le}
 use Rattle.laws.specs.Orders.{Ranking, ranked}
 use Rattle.laws.specs.States.{matches, first, next, longest-matches, longest-le, next-le}
 use Rattle.laws.specs.Tables.{antemerOk, antemerEnd, antemerWays, postmerOk, postmerEnd, postmerWays, ways-free, antemers-table, postmers-table, postmer-end, antemer-stop}
 use Rattle.laws.specs.Bans.{never, ban, ban-le, ban-most, lowBy, lasts, antemer-row, postmer-row, word-allowed}
-use Rattle.worksheets.specs.Columns.{LettersOf, BansOf, MovesOf, UpTo, ReachIs, EndsAre, LastsIs, endWays, Counts, AntemersAre, PostmersAre}
-use Rattle.worksheets.proofs.Laws.{letters-agree, moves-bans, next-at, ban-at, own-later}
+use Rattle.states.specs.Tables.{LettersOf}
+use Rattle.worksheets.specs.Columns.{BansOf, MovesOf, UpTo, ReachIs, EndsAre, LastsIs, endWays, Counts, AntemersAre, PostmersAre}
+use Rattle.worksheets.proofs.Laws.{letters-agree, moves-bans, next-entry, ban-entry, own-later}
 use Rattle.worksheets.proofs.Rows.{upTo-column}
 
 -- the ways to complete a state below so many to an antemer by n letters; from the others there are none
@@ -43,9 +44,8 @@ row-test k m a h = leb-cong a (k - m) (m + a) k (λ q. omega arith) (λ q. omega
 -- the rows up to some row, and below another
 row-last : (a x last : ℕ) → 0 < last → leb a (min x (last - 1)) ≡ (leb a x && ltb a last)
 row-last a x last h =
-    test-ext (leb a (min x (last - 1))) (leb a x && ltb a last)
-    (λ e. and-i (leb a x) (ltb a last) (le-leb a x (omega (arith, leb-true a (min x (last - 1)) e))) (lt-ltb a last (omega (arith, leb-true a (min x (last - 1)) e))))
-    (λ e. le-leb a (min x (last - 1)) (omega (arith, leb-true a x (and-l (leb a x) (ltb a last) e), ltb-true a last (and-r (leb a x) (ltb a last) e))))
+    leb-min a x (last - 1)
+    ∙ ap (λ (t : Bool). leb a x && t) (leb-cong a (last - 1) (suc a) last (λ q. omega arith) (λ q. omega arith))
 
 -- ---- states
 
@@ -117,23 +117,15 @@ module _ {ρ : Ranking} {w : Word} {m : ℕ} {own bans : List ℕ} (s : BansOf �
   lasts-some e = omega (arith, e, first-some (length w) (omega (arith, s .word .long)))
 
 module _ {ρ : Ranking} {w : Word} {m : ℕ} {own nexts bans : List ℕ} (s : MovesOf ρ w m own nexts bans) where
-  -- there are 128 next states
-  long-next : length nexts ≡ 128
-  long-next = ap length (s .links .nexts)
-
-  -- and 128 bans
-  long-ban : length bans ≡ 128
-  long-ban = ap length (s .links .bans)
-
   -- a next state is at most one more, and at most m
   next-low : (i b : ℕ) → i ≤ m → b < 4 → (getD nexts (4 * i + b) 0 ≤ suc i) × (getD nexts (4 * i + b) 0 ≤ m)
   next-low i b h k =
-      let e = next-at (s .word) (s .links .nexts) i b h k in
+      let e = next-entry (s .word) (s .links .nexts) i b h k in
       (omega (arith, e, next-le w i b), omega (arith, e, s .word .long, longest-le w (length w) (b ∷ first w i)))
 
   -- a ban is at most m, or never
   ban-low : (i b : ℕ) → i ≤ m → b < 4 → (getD bans (4 * i + b) 0 ≤ m) ⊎ (getD bans (4 * i + b) 0 ≡ never)
-  ban-low i b h k = rw (ban-at (moves-bans s) i b h k) (go (ltb (ban w (lowBy ρ w) i b) never) refl)
+  ban-low i b h k = rw (ban-entry (moves-bans s) i b h k) (go (ltb (ban w (lowBy ρ w) i b) never) refl)
     where
       go : (t : Bool) → ltb (ban w (lowBy ρ w) i b) never ≡ t → (ban w (lowBy ρ w) i b ≤ m) ⊎ (ban w (lowBy ρ w) i b ≡ never)
       go true e = inl (omega (arith, s .word .long, ban-most w (lowBy ρ w) i b (ltb-true (ban w (lowBy ρ w) i b) never e)))
@@ -146,7 +138,7 @@ module _ {ρ : Ranking} {w : Word} {m : ℕ} {own nexts bans : List ℕ} (s : Mo
       ≡ total (map (λ b. cond (ltb left′ (getD bans (4 * i + b) 0)) (W (getD nexts (4 * i + b) 0) n) 0) letters)
   by-tables W i n left left′ h e =
       letters-agree (λ b. cond (ltb left (ban w (lowBy ρ w) i b)) (W (next w i b) n) 0) (λ b. cond (ltb left′ (getD bans (4 * i + b) 0)) (W (getD nexts (4 * i + b) 0) n) 0)
-      (λ b k. rw (ban-at (moves-bans s) i b h k, next-at (s .word) (s .links .nexts) i b h k, e))
+      (λ b k. rw (ban-entry (moves-bans s) i b h k, next-entry (s .word) (s .links .nexts) i b h k, e))
 
   module _ (k : ℕ) (h : m ≤ k) (f : k ≤ 31) where
     -- the antemers are counted from state 0, with w to follow; from the states from `live` on there is no way
@@ -158,8 +150,6 @@ module _ {ρ : Ranking} {w : Word} {m : ℕ} {own nexts bans : List ℕ} (s : Mo
           whole = omega arith;
           within = c .some;
           alive = omega (arith, low);
-          longNext = long-next;
-          longBan = long-ban;
           bans = λ i b q p. ban-low i b (omega (arith, low)) p;
           leads = λ i b q p. next-low i b (omega (arith, low)) p;
           begins = record { long = e .long; below = λ i q. e .below i q ∙ live-begins ρ w live i q; above = e .above };
@@ -187,8 +177,6 @@ module _ {ρ : Ranking} {w : Word} {m : ℕ} {own nexts bans : List ℕ} (s : Mo
           whole = omega arith;
           within = omega arith;
           alive = omega arith;
-          longNext = long-next;
-          longBan = long-ban;
           bans = λ i b q p. ban-low i b (omega arith) p;
           leads = λ i b q p. next-low i b (omega arith) p;
           begins =

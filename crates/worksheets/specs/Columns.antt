@@ -8,25 +8,17 @@ use mathlib.Core.Path.{_≡_}
 use lib.Dec.{ltb, eqb}
 use lib.ListN.{length, getD, drop}
 use Rattle.definitions.specs.Lists.{tabulate, total}
-use Rattle.definitions.specs.Words.{Word, Letters, letters}
+use Rattle.definitions.specs.Words.{Word, letters}
 use Rattle.definitions.specs.Shelves.{antemers, postmers, column}
 use Rattle.laws.specs.Orders.{Ranking, OneToOne, ranked}
 use Rattle.laws.specs.Threads.{caught}
 use Rattle.laws.specs.Acceptors.{belowHit}
 use Rattle.laws.specs.Tables.{antemerEnd}
-use Rattle.laws.specs.Bans.{ban, lasts, lowBy}
+use Rattle.laws.specs.Bans.{never, ban, lasts, lowBy}
 use Rattle.states.specs.Grids.{grid}
-use Rattle.states.specs.Tables.{ownOf, nextAt, banAt, AlphabetsOf, LinksOf}
+use Rattle.states.specs.Tables.{nextAt, banAt, LettersOf, AlphabetsOf, LinksOf}
 
 -- ---- words and rankings that the tables belong to
-
--- a list that holds the letters of a word of m letters
-pub record LettersOf (w : Word) (m : ℕ) (own : List ℕ) : Type 0 where
-  pub letters : Letters w
-  pub long : length w ≡ m
-  pub some : 0 < m
-  pub few : m ≤ 31
-  pub owns : own ≡ ownOf w
 
 -- beside w's own letters: when letters are banned
 pub record BansOf (ρ : Ranking) (w : Word) (m : ℕ) (own ban : List ℕ) : Type 0 where
@@ -160,9 +152,7 @@ pub record Counts (W : ℕ → ℕ → ℕ) (m rows start follow live : ℕ) (fi
   pub whole : start + follow ≡ m
   pub within : start < live
   pub alive : live ≤ suc m
-  pub longNext : length next ≡ 128
-  pub longBan : length ban ≡ 128
-  pub bans : (i b : ℕ) → i < live → b < 4 → (getD ban (4 * i + b) 0 ≤ m) ⊎ (getD ban (4 * i + b) 0 ≡ 64)
+  pub bans : (i b : ℕ) → i < live → b < 4 → (getD ban (4 * i + b) 0 ≤ m) ⊎ (getD ban (4 * i + b) 0 ≡ never)
   pub leads : (i b : ℕ) → i < live → b < 4 → (getD next (4 * i + b) 0 ≤ suc i) × (getD next (4 * i + b) 0 ≤ m)
   pub begins : UpTo 64 live (λ i. W i 0) first
   pub dead : (i n : ℕ) → live ≤ i → i ≤ m → W i n ≡ 0

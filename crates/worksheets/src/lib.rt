@@ -119,7 +119,7 @@ fn leads_to(left: u8, ban: u8, next: u8) -> u8
     if left < ban { next } else { NOWHERE }
 }
 
-// For each state and letter the state that the letter leads to, or NOWHERE where it is banned with so many letters left.
+// The same for every state and letter.
 fn allowed_letters(left: u64, next: &[u8; 128], ban: &[u8; 128]) -> [u8; 128]
     requires { ⌜ left < 64 ⌝ }
     ensures { λ r. ⌜ AllowedBy left (now (next .entry)) (now (ban .entry)) r ⌝ }
@@ -189,7 +189,7 @@ struct Side {
 }
 
 // Writes the next row of a side, the ways by one letter more than are done, and gives those from the start. From the states in which no m-mer
-// can exist any more they are a power of four; a state from which the start is too far away is passed over.
+// can exist any more they are a power of four; a state that the start cannot reach in the rows to come is passed over.
 fn next_row(
     m: u64,
     rows: u64,
@@ -212,7 +212,7 @@ fn next_row(
 }
 
 // The column of a side, from the ways to complete each state by no letter: row r, up to the last of so many, holds the ways to complete the
-// start by r letters. Which letters are banned changes while fewer letters than w has are left.
+// start by r letters. From m letters left on the same letters are banned, so the table of allowed letters is made anew only up to there.
 fn column(
     m: u64,
     rows: u64,

@@ -76,7 +76,7 @@ loop-again c =
     (omega arith, rw add-one (λ ρ w a. reached-more a (inv .1 ρ w a) (omega arith) here (c .before .before .link .ensures) (c .link2 .ensures)))
 
 returns : tie.Need-returns Inv-loop μ-loop
-returns c = (refl, refl, λ ρ w a. reached-last (c .before .loop .inv .1 ρ w a) (omega (arith, a .long)))
+returns c = (refl, refl, λ ρ w a. reached-last (c .before .loop .inv .1 ρ w a) (omega (arith, a .word .long)))
 
 pub link-states-spec : {M : Type 1} → statement M
 link-states-spec =

@@ -3,6 +3,7 @@
 use Prim.Native.Nat.{ℕ, zero, suc}
 use mathlib.Core.List.{List}
 use mathlib.Core.Path.{_≡_, refl, sym, _∙_}
+use native.Mathlib.Omega.{arith}
 use borrow.Author.Needs.{needs}
 use lib.ListN.{replicate}
 use Rattle.definitions.specs.Words.{Word}
@@ -26,7 +27,7 @@ refused (suc r) h ρ w = refl
 accepted : {ρ : Ranking} {w : Word} {m : ℕ} {own marks next ban : List ℕ} → AlphabetsOf ρ w m own marks → LinksOf ρ w next ban
     → record { refusal = 0; own = own; marks = marks; next = next; ban = ban } ≡ prepareAnswer 0 ρ w
 unfolding prepareAnswer
-accepted a l = rw (a .owns, a .ranks, l .nexts, l .bans)
+accepted a l = rw (a .word .owns, a .ranks, l .nexts, l .bans)
 
 word-refusal-requires : tie.Need-word-refusal-requires
 word-refusal-requires c κs = search needs
@@ -47,7 +48,8 @@ none c = sym (given (c .before)) ∙ c .if1 .left
 special-alphabets-requires : tie.Need-special-alphabets-requires
 special-alphabets-requires c κs =
     let args = c .before .before .args in
-    word-accepted (args .m) (args .k) (args .m) (args .key) (args .word) (none c)
+    let order = word-accepted (args .m) (args .k) (args .m) (args .key) (args .word) (none c) .order in
+    (order .mSome, omega (arith, order .mFits, order .kFew))
 
 link-states-requires : tie.Need-link-states-requires
 link-states-requires c κs = (_, _, c .special-alphabets .ensures)

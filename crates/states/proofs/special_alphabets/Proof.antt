@@ -55,17 +55,17 @@ letter-at : (m x p : ℕ) → p < m → getD (wordOf m x) p 0 ≡ x / 2 ^ (2 * (
 letter-at m x p h = rw four-pow at (digits-at 4 m x p (m - 1 - p) (omega arith))
 
 -- the marks at a place, by the two letters that stand there
-marks-at : (m key x p : ℕ) → p < m → {letter turn a c g t : ℕ} → getD (wordOf m x) p 0 ≡ letter → getD (wordOf m key) p 0 ≡ turn
-    → a ≡ markOf (bitXor 0 turn) (bitXor letter turn) → c ≡ markOf (bitXor 1 turn) (bitXor letter turn)
-    → g ≡ markOf (bitXor 2 turn) (bitXor letter turn) → t ≡ markOf (bitXor 3 turn) (bitXor letter turn)
+marks-at : (m key x p : ℕ) → p < m → {letter keyLetter a c g t : ℕ} → getD (wordOf m x) p 0 ≡ letter → getD (wordOf m key) p 0 ≡ keyLetter
+    → a ≡ markOf (bitXor 0 keyLetter) (bitXor letter keyLetter) → c ≡ markOf (bitXor 1 keyLetter) (bitXor letter keyLetter)
+    → g ≡ markOf (bitXor 2 keyLetter) (bitXor letter keyLetter) → t ≡ markOf (bitXor 3 keyLetter) (bitXor letter keyLetter)
     → a ∷ c ∷ g ∷ t ∷ [] ≡ map (markAt (keyRanking (wordOf m key)) (wordOf m x) p) letters
 marks-at m key x p h e q ea ec eg et = rw (ea, ec, eg, et, lt-ltb p (length (wordOf m x)) (rw length-digits h), e, q)
 
 abbrev Inv-loop : tie.InvT-loop
-Inv-loop k m key word own₀ marks₀ p₀ own marks p = (p ≤ m) × Marked (keyRanking (wordOf m key)) (wordOf m word) p own marks
+Inv-loop m key word own₀ marks₀ p₀ own marks p = (p ≤ m) × Marked (keyRanking (wordOf m key)) (wordOf m word) p own marks
 
 abbrev μ-loop : tie.MeasureT-loop
-μ-loop k m key word own₀ marks₀ p₀ own marks p = m - p
+μ-loop m key word own₀ marks₀ p₀ own marks p = m - p
 
 loop-holds : tie.Need-loop-holds Inv-loop μ-loop
 loop-holds c = (omega arith, marked-first (keyRanking (wordOf (c .args .m) (c .args .key))) (wordOf (c .args .m) (c .args .word)))
@@ -77,27 +77,19 @@ sub-shift-2 : tie.Need-sub-shift-2 Inv-loop μ-loop
 sub-shift-2 c = omega arith
 
 mul-shift : tie.Need-mul-shift Inv-loop μ-loop
-mul-shift c =
-    let few = c .before .before .pre .order in
-    omega (arith, few .kFew, few .mFits)
+mul-shift c = omega (arith, c .before .before .pre .1)
 
 shr-letter : tie.Need-shr-letter Inv-loop μ-loop
-shr-letter c =
-    let few = c .before .before .pre .order in
-    omega (arith, few .kFew, few .mFits)
+shr-letter c = omega (arith, c .before .before .pre .1)
 
-shr-turn : tie.Need-shr-turn Inv-loop μ-loop
-shr-turn c =
-    let few = c .before .before .pre .order in
-    omega (arith, few .kFew, few .mFits)
+shr-key-letter : tie.Need-shr-key-letter Inv-loop μ-loop
+shr-key-letter c = omega (arith, c .before .before .pre .1)
 
 cast-own : tie.Need-cast-own Inv-loop μ-loop
 cast-own c = omega arith
 
 array-write-own : tie.Need-array-write-own Inv-loop μ-loop
-array-write-own c =
-    let few = c .before .before .pre .order in
-    omega (arith, few .kFew, few .mFits)
+array-write-own c = omega (arith, c .before .before .pre .1)
 
 mark-requires : tie.Need-mark-requires Inv-loop μ-loop
 mark-requires c κs = tt
@@ -113,13 +105,11 @@ mark-requires-4 c κs = tt
 
 put-requires : tie.Need-put-requires Inv-loop μ-loop
 put-requires c κs =
-    let few = c .before .before .before .before .before .before .before .pre .order in
-    (omega (arith, few .kFew, few .mFits), marks-long (c .before .before .before .before .before .before .loop .inv .1))
+    let few = c .before .before .before .before .before .before .before .pre .1 in
+    (omega (arith, few), marks-long (c .before .before .before .before .before .before .loop .inv .1))
 
 add-p : tie.Need-add-p Inv-loop μ-loop
-add-p c =
-    let few = c .before .before .before .before .before .before .before .before .pre .order in
-    omega (arith, few .kFew, few .mFits)
+add-p c = omega (arith, c .before .before .before .before .before .before .before .before .pre .1)
 
 loop-less : tie.Need-loop-less Inv-loop μ-loop
 loop-less c = omega arith
@@ -130,26 +120,28 @@ loop-again c =
     let at = c .before .before .before .before .before .before .before .loop in
     let m = start .args .m in
     let letter = letter-at m (start .args .word) (at .p) (omega arith) in
-    let turn = letter-at m (start .args .key) (at .p) (omega arith) in
+    let keyLetter = letter-at m (start .args .key) (at .p) (omega arith) in
     let last = c .before .before in
-    let row = marks-at m (start .args .key) (start .args .word) (at .p) (omega arith) letter turn
+    let row = marks-at m (start .args .key) (start .args .word) (at .p) (omega arith) letter keyLetter
     (last .before .before .before .mark .ensures) (last .before .before .mark2 .ensures) (last .before .mark3 .ensures) (last .mark4 .ensures) in
-    (omega arith, rw add-one (marked-more (at .inv .1) (omega (arith, start .pre .order .kFew, start .pre .order .mFits)) letter row (c .put .ensures)))
+    (omega arith, rw add-one (marked-more (at .inv .1) (omega (arith, start .pre .1)) letter row (c .put .ensures)))
 
 returns : tie.Need-returns Inv-loop μ-loop
 returns c =
     let at = c .before .loop in
     let start = c .before .before in
     let m = start .args .m in
-    let order = start .pre .order in
     let end : length (wordOf m (start .args .word)) ≤ at .p = rw length-digits (omega arith) in
     record {
+      word =
+          record {
+            letters = digits-below four-pos m (start .args .word);
+            long = length-digits 4 m (start .args .word);
+            some = start .pre .0;
+            few = start .pre .1;
+            owns = owns-all (at .inv .1) end;
+          };
       one = keyed-one-to-one (wordOf m (start .args .key)) (digits-below four-pos m (start .args .key));
-      letters = digits-below four-pos m (start .args .word);
-      long = length-digits 4 m (start .args .word);
-      some = order .mSome;
-      few = omega (arith, order .kFew, order .mFits);
-      owns = owns-all (at .inv .1) end;
       ranks = ranks-all (at .inv .1) end;
     }
 
@@ -164,7 +156,7 @@ special-alphabets-spec =
     sub-shift-2
     mul-shift
     shr-letter
-    shr-turn
+    shr-key-letter
     cast-own
     array-write-own
     mark-requires

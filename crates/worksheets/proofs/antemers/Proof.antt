@@ -15,7 +15,7 @@ ends-requires : tie.Need-ends-requires
 ends-requires c κs =
     let known = c .before .pre .0 in
     let reached = c .reach .ensures (known .0) (known .1) (states-bans (known .2)) in
-    ((known .0, known .1, states-nexts (known .2)), (reached .some, omega (arith, reached .most, known .2 .alphabets .long)))
+    ((known .0, known .1, states-nexts (known .2)), (reached .some, omega (arith, reached .most, known .2 .alphabets .word .long)))
 
 sub-column : tie.Need-sub-column
 sub-column c = c .before .before .pre .1 .0 .0

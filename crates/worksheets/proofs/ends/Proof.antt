@@ -77,12 +77,12 @@ begun ρ w = record { some = omega arith; written = upTo-more (upTo-none 64 (end
 
 -- a state below m is small
 state-small : {ρ : Ranking} {w : Word} {m i : ℕ} {own marks nexts : List ℕ} → NextsOf ρ w m own marks nexts → i < m → i < 64
-state-small s h = omega (arith, s .alphabets .few)
+state-small s h = omega (arith, s .alphabets .word .few)
 
 module _ {ρ : Ranking} {w : Word} {m : ℕ} {own marks nexts : List ℕ} (s : NextsOf ρ w m own marks nexts) {i low : ℕ} {ends : List ℕ} (e : Ended ρ w i ends low) (h : i < m) where
   -- the state that i falls to is small
   low-small : low < 64
-  low-small = omega (arith, low-lt e, s .alphabets .few)
+  low-small = omega (arith, low-lt e, s .alphabets .word .few)
 
   -- where w's own letter leads from it can be read
   fall-ready : EntryReady low i own nexts
@@ -91,15 +91,15 @@ module _ {ρ : Ranking} {w : Word} {m : ℕ} {own marks nexts : List ℕ} (s : N
   -- it is the state that the next one falls to
   low-on : {r : ℕ} → r ≡ entryOf low i own nexts → r ≡ fall w (i + 1)
   low-on q =
-      q ∙ own-next s low i (omega (arith, low-lt e)) h ∙ ap (λ (x : ℕ). next w x (getD w i 0)) (e .falls) ∙ fall-on w i (e .some) (omega (arith, s .alphabets .long))
+      q ∙ own-next s low i (omega (arith, low-lt e)) h ∙ ap (λ (x : ℕ). next w x (getD w i 0)) (e .falls) ∙ fall-on w i (e .some) (omega (arith, s .alphabets .word .long))
       ∙ ap (fall w) (sym (add-one i))
 
   -- one state more is written
   one-more : {v r : ℕ} → EndIs ρ w i (getD ends low 0) v → r ≡ entryOf low i own nexts → Ended ρ w (i + 1) (set ends i v) r
   one-more {v} p q =
       let more : UpTo 64 (suc i) (endWays ρ w) (set ends i v) =
-      upTo-more (e .written) (omega (arith, s .alphabets .few))
-      (end-more ρ w i (e .some) (omega (arith, s .alphabets .long)) (e .written .below low (low-lt e) ∙ ap (endWays ρ w) (e .falls)) p) in
+      upTo-more (e .written) (omega (arith, s .alphabets .word .few))
+      (end-more ρ w i (e .some) (omega (arith, s .alphabets .word .long)) (e .written .below low (low-lt e) ∙ ap (endWays ρ w) (e .falls)) p) in
       record { some = omega arith; written = rw add-one more; falls = low-on q }
 
 abbrev Inv-loop : tie.InvT-loop
