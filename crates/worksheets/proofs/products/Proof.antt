@@ -60,14 +60,14 @@ mul-product-3 : tie.Need-mul-product-3 Inv-loop μ-loop
 mul-product-3 c =
     let start = c .before .before .before .before in
     let sheet = start .args .t2 in
-    omega (arith, row-fits (start .args .n) (sheet .antemers) (sheet .postmers) (c .before .before .before .loop .a) (start .pre .1) (c .before .before .loop-test .taken))
+    omega (arith, row-fits (start .args .n) (sheet .antemers) (sheet .postmers) (c .before .before .before .loop .a) (start .pre .1) (omega arith))
 
 add-sum : tie.Need-add-sum Inv-loop μ-loop
 add-sum c =
     let start = c .before .before .before .before in
     let sheet = start .args .t2 in
     let at = c .before .before .before .loop in
-    omega (arith, at .inv .1, row-fits (start .args .n) (sheet .antemers) (sheet .postmers) (at .a) (start .pre .1) (c .before .before .loop-test .taken))
+    omega (arith, at .inv .1, row-fits (start .args .n) (sheet .antemers) (sheet .postmers) (at .a) (start .pre .1) (omega arith))
 
 add-a : tie.Need-add-a Inv-loop μ-loop
 add-a c = omega (arith, c .before .before .before .before .pre .0)
