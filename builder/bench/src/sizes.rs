@@ -57,7 +57,7 @@ pub fn served(k: u64, m: u64, key: u64, word: u64, count: impl FnOnce() -> u64) 
 
 /// Answers how many checks passed.
 pub fn check() -> u64 {
-    counts::check_independent() + check_refused() + check_first_of_two() + check_served() + check_drawn()
+    counts::check_independent() + check_listed() + check_refused() + check_first_of_two() + check_served() + check_drawn()
 }
 
 /// Every contender must give this answer; answers how many there are.
@@ -106,13 +106,24 @@ fn check_first_of_two() -> u64 {
     .sum()
 }
 
+/// The sizes that document 01 lists.
+fn check_listed() -> u64 {
+    let sizes = |what, k, m, key, listed: &[u64]| {
+        listed.iter().enumerate().map(|(word, &size)| known(what, k, m, key, word as u64, size)).sum::<u64>()
+    };
+    sizes("W1", 2, 1, 1, &[5, 7, 1, 3])
+        + sizes("key AA", 3, 2, 0, &[7, 7, 7, 7, 3, 5, 6, 6, 2, 2, 3, 5, 1, 1, 1, 1])
+        + known("W3", 4, 3, 48, 0, 4)
+        + known("W4", 3, 2, 3, 12, 0)
+        + known("k 31, word A", 31, 1, 0, 0, 4_611_068_345_031_103_957)
+        + known("k 31, word T", 31, 1, 0, 3, 1)
+}
+
 /// Where m is k each shelf holds its word alone; the greatest key and word are served.
 fn check_served() -> u64 {
     let greatest = |m: u64| 4u64.pow(m as u32) - 1;
     let alone = |m| known("m is k", m, m, greatest(m), greatest(m), 1) + known("m is k, key A", m, m, 0, greatest(m), 1);
-    (1..=31).map(alone).sum::<u64>()
-        + known("k 31, word A", 31, 1, 0, 0, 4_611_068_345_031_103_957)
-        + known("k 31, word T", 31, 1, 0, 3, 1)
+    (1..=31).map(alone).sum()
 }
 
 fn check_drawn() -> u64 {
