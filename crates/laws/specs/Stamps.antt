@@ -1,7 +1,7 @@
 -- Values with their places behind them. A stamp is a value times a side, plus a place below the side; the least of some stamps tells the
 -- least of the values and, of equals, the leftmost place, so that the least of two stretches is the lesser of two numbers.
 -- Assumes nothing.
-use Prim.Native.Nat.{ℕ, zero, suc, _+_, _-_, _*_, _%_, _≤_, _<_, min}
+use Prim.Native.Nat.{ℕ, zero, suc, _+_, _*_, _%_, _≤_, _<_, min}
 use mathlib.Core.Bool.{Bool, true, false, cond}
 use mathlib.Core.List.{List, [], _∷_, _++_}
 use mathlib.Core.Path.{_≡_, refl, sym, ap, _∙_}

@@ -21,7 +21,7 @@ module _ {A : Type 0} where
 
   module _ (d : A) (f : ℕ → A) where
     -- one entry more changes none of the others
-    pub written-other : (n i : ℕ) → (i ≡ n → ⊥) → written n d f i ≡ written (suc n) d f i
+    written-other : (n i : ℕ) → (i ≡ n → ⊥) → written n d f i ≡ written (suc n) d f i
     written-other n i h = go (ltb i n) refl
       where
         go : (t : Bool) → ltb i n ≡ t → cond t (f i) d ≡ written (suc n) d f i
@@ -29,7 +29,7 @@ module _ {A : Type 0} where
         go false e = rw (le-ltb i (suc n) (omega (arith, ltb-false i n e)))
 
     -- the entry that was written last
-    pub written-last : (n : ℕ) → written (suc n) d f n ≡ f n
+    written-last : (n : ℕ) → written (suc n) d f n ≡ f n
     written-last n = rw (lt-ltb n (suc n) (omega arith))
 
     -- all is written where d stands at all the other places

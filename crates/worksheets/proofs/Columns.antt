@@ -56,10 +56,9 @@ module _ {W : ℕ → ℕ → ℕ} {m rows start follow live : ℕ} {first next 
   -- which letters are allowed changes no more once as many letters are left as w has
   bans-last : (i b left : ℕ) → i < live → b < 4 → left < never → ltb (min left m) (getD ban (4 * i + b) 0) ≡ ltb left (getD ban (4 * i + b) 0)
   bans-last i b left h f k =
-      ⊎-elim
-      (λ l. leb-cong (suc (min left m)) (getD ban (4 * i + b) 0) (suc left) (getD ban (4 * i + b) 0) (λ x. omega arith) (λ x. omega arith))
-      (λ e. leb-cong (suc (min left m)) (getD ban (4 * i + b) 0) (suc left) (getD ban (4 * i + b) 0) (λ x. omega arith) (λ x. omega arith))
-      (q .bans i b h f)
+      leb-cong (suc (min left m)) (getD ban (4 * i + b) 0) (suc left) (getD ban (4 * i + b) 0)
+      (λ x. ⊎-elim (λ l. omega arith) (λ e. omega arith) (q .bans i b h f))
+      (λ x. ⊎-elim (λ l. omega arith) (λ e. omega arith) (q .bans i b h f))
 
   module _ {n : ℕ} {ways allowed : List ℕ} (s : Filled W rows start live n ways) (h : suc n ≤ rows) (a : AllowedBy (min (suc n + follow) m) next ban allowed) where
     -- the states from which no m-mer can exist any more
