@@ -1,12 +1,16 @@
--- Room that is written entry by entry, and positions as bytes.
+-- Room that is written entry by entry, from its start on or behind a place, and positions as bytes.
 -- Assumes nothing.
 use Prim.Native.Nat.{ℕ, suc, _+_, _*_, _≤_, _<_}
+use mathlib.Core.Bool.{Bool, true, false}
 use mathlib.Core.List.{List, [], _∷_, _++_}
+use mathlib.Core.Logic.{_⊎_, inl, inr, ⊎-elim}
 use mathlib.Core.Path.{_≡_, refl, sym, ap, _∙_}
 use native.Mathlib.Numerals.{add-one}
 use native.Mathlib.Omega.{arith}
-use lib.ListN.{length, getD, set, take, drop}
-use lib.Seq.{length-take-le, drop-cons, drop-drop, take-add, take-at, drop-at, take-length, length-front, sets, sets-eq}
+use borrow.Author.Tests.{eqb-true, eqb-false}
+use lib.Dec.{eqb}
+use lib.ListN.{length, getD, set, take, drop, length-set}
+use lib.Seq.{length-take-le, drop-cons, drop-drop, take-add, take-at, drop-at, take-length, length-front, sets, sets-eq, getD-set-same, getD-set-other}
 use Rattle.definitions.specs.Lists.{over}
 use Rattle.definitions.specs.Words.{bytes}
 use Rattle.definitions.specs.Outcomes.{asBytes}
@@ -41,6 +45,49 @@ module _ {A : Type 0} where
     -- all is written
     pub overTo-all : {i : ℕ} {room : List A} → room ≡ overTo i new old → i ≡ length new → room ≡ over new old
     overTo-all e q = rw (q, take-length) at e
+
+-- ---- numbers written behind a place
+
+-- behind `to`, the entries from lo to below hi are written and no other is
+pub record Written (lo hi to : ℕ) (new : ℕ → ℕ) (old room : List ℕ) : Type 0 where
+  pub long : length room ≡ length old
+  pub inside : (i : ℕ) → lo ≤ i → i < hi → getD room (to + i) 0 ≡ new i
+  pub outside : (p : ℕ) → (p < to + lo) ⊎ (to + hi ≤ p) → getD room p 0 ≡ getD old p 0
+
+module _ {to : ℕ} {new : ℕ → ℕ} where
+  -- nothing is written yet
+  pub written-none : (lo : ℕ) (room : List ℕ) → Written lo lo to new room room
+  written-none lo room = record { long = refl; inside = λ i h k. absurd (omega arith); outside = λ p h. refl }
+
+  module _ {lo hi i v : ℕ} {old room : List ℕ} (s : Written lo hi to new old room) (k : to + i < length room) (e : v ≡ new i) where
+    -- every other entry is as it was
+    set-at : (j : ℕ) → (j ≡ i → ⊥) → getD (set room (to + i) v) (to + j) 0 ≡ getD room (to + j) 0
+    set-at j n = getD-set-other room (to + i) (to + j) v 0 (λ r. n (omega arith))
+
+    -- the new entry is there, and the others that were written
+    set-inside : (j : ℕ) → (t : Bool) → eqb j i ≡ t → ((j ≡ i → ⊥) → getD room (to + j) 0 ≡ new j) → getD (set room (to + i) v) (to + j) 0 ≡ new j
+    set-inside j true q h = let same : j ≡ i = eqb-true j i q in rw same (getD-set-same room (to + i) v 0 k ∙ e)
+    set-inside j false q h = set-at j (eqb-false j i q) ∙ h (eqb-false j i q)
+
+    -- one more entry is written, after the others
+    pub written-up : hi ≡ i → lo ≤ i → Written lo (suc i) to new old (set room (to + i) v)
+    written-up q h =
+        record {
+          long = length-set room (to + i) v ∙ s .long;
+          inside = λ j l u. set-inside j (eqb j i) refl (λ n. s .inside j l (omega (arith, n)));
+          outside = λ p o. getD-set-other room (to + i) p v 0 (λ r. ⊎-elim (λ l. omega arith) (λ l. omega arith) o)
+              ∙ s .outside p (⊎-elim (λ l. inl l) (λ l. inr (omega arith)) o);
+        }
+
+    -- or before them
+    pub written-down : lo ≡ suc i → i < hi → Written i hi to new old (set room (to + i) v)
+    written-down q h =
+        record {
+          long = length-set room (to + i) v ∙ s .long;
+          inside = λ j l u. set-inside j (eqb j i) refl (λ n. s .inside j (omega (arith, n)) u);
+          outside = λ p o. getD-set-other room (to + i) p v 0 (λ r. ⊎-elim (λ l. omega arith) (λ l. omega arith) o)
+              ∙ s .outside p (⊎-elim (λ l. inl (omega arith)) (λ l. inr l) o);
+        }
 
 -- ---- numbers as bytes
 

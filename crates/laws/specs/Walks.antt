@@ -174,10 +174,11 @@ module _ {S : Type 0} (ok : S → ℕ → ℕ → Bool) (step : S → ℕ → S)
   branch s n a = cond (ok s n a) (ways (step s a) n) 0
 
   -- the rest of each accepted word of n + 1 letters that a letter begins
-  abbrev rest : S → ℕ → ℕ → List Word
+  abbrev pub rest : S → ℕ → ℕ → List Word
   rest s n a = cond (ok s n a) (filter (accepts (step s a)) (words n)) []
 
-  accepts-split : (s : S) (n : ℕ) → filter (accepts s) (words (suc n)) ≡ joined (λ a. map (λ (z : Word). a ∷ z) (rest s n a)) letters
+  -- the accepted words split by their first letter
+  pub accepts-split : (s : S) (n : ℕ) → filter (accepts s) (words (suc n)) ≡ joined (λ a. map (λ (z : Word). a ∷ z) (rest s n a)) letters
   accepts-split s n =
       filter-split (accepts s) n ∙ ap (λ (F : ℕ → List Word). joined (λ a. map (λ (z : Word). a ∷ z) (F a)) letters) (fun-ext (λ a. one a))
     where
@@ -186,7 +187,8 @@ module _ {S : Type 0} (ok : S → ℕ → ℕ → Bool) (step : S → ℕ → S)
           filter-cong (λ z. accepts s (a ∷ z)) (λ z. ok s n a && accepts (step s a) z) n (λ z m. ap (λ (i : ℕ). ok s i a && accepts (step s a) z) (m .0))
           ∙ filter-fixed (ok s n a) (accepts (step s a)) (words n)
 
-  rest-count : (s : S) (n a : ℕ) → ways (step s a) n ≡ length (filter (accepts (step s a)) (words n)) → length (rest s n a) ≡ branch s n a
+  -- there are as many as the table has
+  pub rest-count : (s : S) (n a : ℕ) → ways (step s a) n ≡ length (filter (accepts (step s a)) (words n)) → length (rest s n a) ≡ branch s n a
   rest-count s n a h = length-cond (ok s n a) (filter (accepts (step s a)) (words n)) ∙ ap (λ (k : ℕ). cond (ok s n a) k 0) (sym h)
 
   -- the table counts the accepted words

@@ -1,11 +1,11 @@
 -- What the tables of the states of a word hold, over any ranking of the letters for each place.
 -- Assumes nothing.
-use Prim.Native.Nat.{ℕ, _*_, _≤_, _<_}
+use Prim.Native.Nat.{ℕ, _+_, _*_, _≤_, _<_}
 use mathlib.Core.Bool.{Bool, true, false, cond}
 use mathlib.Core.List.{List, map}
 use mathlib.Core.Path.{_≡_, refl, sym, ap, _∙_}
 use native.Mathlib.Omega.{arith}
-use borrow.Author.Tests.{ltb-true, ne-eqb}
+use borrow.Author.Tests.{ltb-true, le-leb, ne-eqb}
 use lib.Dec.{ltb, leb, eqb}
 use lib.ListN.{length, getD, take, drop}
 use Rattle.definitions.specs.Lists.{tabulate}
@@ -15,7 +15,7 @@ use Rattle.laws.specs.Filters.{tabulate-at}
 use Rattle.laws.specs.Orders.{Ranking, OneToOne}
 use Rattle.laws.specs.States.{next}
 use Rattle.laws.specs.Bans.{never, ban, lowBy}
-use Rattle.states.specs.Grids.{grid}
+use Rattle.states.specs.Grids.{grid, grid-at}
 
 -- how a rank stands beside that of w's own letter: 0 below, 1 equal, 2 above
 abbrev pub markOf : ℕ → ℕ → ℕ
@@ -104,6 +104,20 @@ module _ {w : Word} {m : ℕ} {own : List ℕ} (l : LettersOf w m own) where
   -- what stands there is a letter
   pub own-lt : (p : ℕ) → p < 32 → getD own p 0 < 4
   own-lt p h = rw (own-at p h) (letter-lt w p (l .letters))
+
+  -- the next state by a letter
+  pub next-entry : {nexts : List ℕ} → nexts ≡ grid (nextAt w) → (i b : ℕ) → i ≤ m → b < 4 → getD nexts (4 * i + b) 0 ≡ next w i b
+  next-entry e i b h k =
+      ap (λ (x : List ℕ). getD x (4 * i + b) 0) e
+      ∙ grid-at (nextAt w) i b (omega (arith, l .few)) k
+      ∙ ap (λ (t : Bool). cond t (next w i b) 0) (le-leb i (length w) (omega (arith, l .long)))
+
+  -- the fewest letters left at which a letter is banned
+  pub ban-entry : (ρ : Ranking) {bans : List ℕ} → bans ≡ grid (banAt ρ w) → (i b : ℕ) → i ≤ m → b < 4 → getD bans (4 * i + b) 0 ≡ ban w (lowBy ρ w) i b
+  ban-entry ρ e i b h k =
+      ap (λ (x : List ℕ). getD x (4 * i + b) 0) e
+      ∙ grid-at (banAt ρ w) i b (omega (arith, l .few)) k
+      ∙ ap (λ (t : Bool). cond t (ban w (lowBy ρ w) i b) never) (le-leb i (length w) (omega (arith, l .long)))
 
 -- the special alphabets of a word of m letters
 pub record AlphabetsOf (ρ : Ranking) (w : Word) (m : ℕ) (own marks : List ℕ) : Type 0 where

@@ -18,8 +18,8 @@ use Rattle.laws.specs.Orders.{Ranking}
 use Rattle.laws.specs.States.{next, next-le}
 use Rattle.laws.specs.Bans.{never, ban, lowBy, ban-own, ban-le}
 use Rattle.states.specs.Grids.{grid, grid-at}
-use Rattle.states.specs.Tables.{markOf, markAt, nextAt, banAt, LettersOf, own-at, own-lt, AlphabetsOf}
-use Rattle.worksheets.specs.Columns.{BansOf, MovesOf, NextsOf, StatesOf, entryOf, EntryReady, PowersAre}
+use Rattle.states.specs.Tables.{markOf, markAt, LettersOf, own-at, own-lt, next-entry, ban-entry, AlphabetsOf}
+use Rattle.worksheets.specs.Columns.{BansOf, MovesOf, NextsOf, StatesOf, entryOf, EntryReady}
 
 -- ---- sums
 
@@ -48,12 +48,6 @@ one-le h = omega arith
 -- what is left gets less
 pub left-less : {i n : ℕ} → i < n → n - (i + 1) < n - i
 left-less h = omega arith
-
--- ---- the powers
-
--- the table of powers
-pub powers-are : {powers : List ℕ} → powers ≡ tabulate (λ n. 4 ^ n) 32 → PowersAre powers
-powers-are e = record { each = λ n h. ap (λ (l : List ℕ). getD l n 0) e ∙ tabulate-at (λ i. 4 ^ i) 32 n 0 h }
 
 -- ---- the tables
 
@@ -84,13 +78,6 @@ module _ {w : Word} {m : ℕ} {own : List ℕ} (l : LettersOf w m own) where
   -- an entry can be read where it is small
   entry-ready : {table : List ℕ} {v : ℕ} (i p : ℕ) → i < 32 → p < 32 → entryOf i p own table ≡ v → v < 256 → EntryReady i p own table
   entry-ready i p h k e f = record { inside = h; place = k; letter = own-lt l p k; byte = omega (arith, e) }
-
-  -- the next state by a letter
-  pub next-entry : {nexts : List ℕ} → nexts ≡ grid (nextAt w) → (i b : ℕ) → i ≤ m → b < 4 → getD nexts (4 * i + b) 0 ≡ next w i b
-  next-entry e i b h k =
-      ap (λ (x : List ℕ). getD x (4 * i + b) 0) e
-      ∙ grid-at (nextAt w) i b (omega (arith, l .few)) k
-      ∙ ap (λ (t : Bool). cond t (next w i b) 0) (le-leb i (length w) (omega (arith, l .long)))
 
 module _ {ρ : Ranking} {w : Word} {m : ℕ} {own marks : List ℕ} (a : AlphabetsOf ρ w m own marks) (i j : ℕ) (h : i + j < m) where
   -- the mark, at a place further on, of w's own letter
@@ -126,17 +113,10 @@ module _ {ρ : Ranking} {w : Word} {m : ℕ} {own marks nexts : List ℕ} (s : N
       (omega (arith, next-le w i (getD w p 0), s .alphabets .word .few))
 
 module _ {ρ : Ranking} {w : Word} {m : ℕ} {own bans : List ℕ} (s : BansOf ρ w m own bans) where
-  -- the fewest letters left at which a letter is banned
-  pub ban-entry : (i b : ℕ) → i ≤ m → b < 4 → getD bans (4 * i + b) 0 ≡ ban w (lowBy ρ w) i b
-  ban-entry i b h k =
-      ap (λ (x : List ℕ). getD x (4 * i + b) 0) (s .bans)
-      ∙ grid-at (banAt ρ w) i b (omega (arith, s .word .few)) k
-      ∙ ap (λ (t : Bool). cond t (ban w (lowBy ρ w) i b) never) (le-leb i (length w) (omega (arith, s .word .long)))
-
   module _ (j : ℕ) (h : j < m) where
     -- the fewest letters left at which w's own letter is banned
     pub own-ban : entryOf j j own bans ≡ ban w (lowBy ρ w) j (getD w j 0)
-    own-ban = own-entry (s .word) bans j j (omega (arith, s .word .few)) ∙ ban-entry j (getD w j 0) (omega arith) (letter-lt w j (s .word .letters))
+    own-ban = own-entry (s .word) bans j j (omega (arith, s .word .few)) ∙ ban-entry (s .word) ρ (s .bans) j (getD w j 0) (omega arith) (letter-lt w j (s .word .letters))
 
     -- they are more than the rest of w
     pub own-later : m < ban w (lowBy ρ w) j (getD w j 0) + j

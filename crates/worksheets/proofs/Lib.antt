@@ -1,7 +1,7 @@
 -- Laws that several proofs cite, in the order in which one builds on another.
 --
 -- Laws          what is read out of the tables; sums over the letters; numbers that fit
--- Rows          entries that are written one after the other behind a place, a row of ways, and lists that are given up to a place
+-- Rows          a row of ways, and lists that are given up to a place
 -- Columns       a column that is counted row by row
 -- Sides         antemers and postmers as ways that a column counts
 -- Sizes         the size from the columns of a worksheet

@@ -1,4 +1,4 @@
--- Entries that are written one after the other behind a place, a row of ways, and lists that are given up to a place.
+-- A row of ways, and lists that are given up to a place.
 -- Assumes nothing.
 use Prim.Native.Nat.{ℕ, suc, _+_, _*_, _^_, _≤_, _<_}
 use mathlib.Core.Bool.{Bool, true, false}
@@ -14,43 +14,9 @@ use lib.Seq.{getD-set-same, getD-set-other, ext-getD}
 use Rattle.definitions.specs.Lists.{tabulate}
 use Rattle.definitions.specs.Shelves.{row}
 use Rattle.laws.specs.Filters.{length-tabulate, tabulate-at}
-use Rattle.worksheets.specs.Columns.{UpTo, wayOf, sumOf, Written, RowReady, WayReady, SumReady, ColumnIs}
+use Rattle.laws.specs.Rooms.{Written}
+use Rattle.worksheets.specs.Columns.{UpTo, wayOf, sumOf, RowReady, WayReady, SumReady, ColumnIs}
 use Rattle.worksheets.proofs.Laws.{letters-agree}
-
-module _ {to : ℕ} {new : ℕ → ℕ} where
-  -- nothing is written yet
-  pub written-none : (lo : ℕ) (ways : List ℕ) → Written lo lo to new ways ways
-  written-none lo ways = record { long = refl; inside = λ i h k. absurd (omega arith); outside = λ p h. refl }
-
-  module _ {lo hi i v : ℕ} {old ways : List ℕ} (s : Written lo hi to new old ways) (k : to + i < length ways) (e : v ≡ new i) where
-    -- every other entry is as it was
-    set-at : (j : ℕ) → (j ≡ i → ⊥) → getD (set ways (to + i) v) (to + j) 0 ≡ getD ways (to + j) 0
-    set-at j n = getD-set-other ways (to + i) (to + j) v 0 (λ r. n (omega arith))
-
-    -- the new entry is there, and the others that were written
-    set-inside : (j : ℕ) → (t : Bool) → eqb j i ≡ t → ((j ≡ i → ⊥) → getD ways (to + j) 0 ≡ new j) → getD (set ways (to + i) v) (to + j) 0 ≡ new j
-    set-inside j true q h = let same : j ≡ i = eqb-true j i q in rw same (getD-set-same ways (to + i) v 0 k ∙ e)
-    set-inside j false q h = set-at j (eqb-false j i q) ∙ h (eqb-false j i q)
-
-    -- one more entry is written, after the others
-    pub written-up : hi ≡ i → lo ≤ i → Written lo (suc i) to new old (set ways (to + i) v)
-    written-up q h =
-        record {
-          long = length-set ways (to + i) v ∙ s .long;
-          inside = λ j l u. set-inside j (eqb j i) refl (λ n. s .inside j l (omega (arith, n)));
-          outside = λ p o. getD-set-other ways (to + i) p v 0 (λ r. ⊎-elim (λ l. omega arith) (λ l. omega arith) o)
-              ∙ s .outside p (⊎-elim (λ l. inl l) (λ l. inr (omega arith)) o);
-        }
-
-    -- or before them
-    pub written-down : lo ≡ suc i → i < hi → Written i hi to new old (set ways (to + i) v)
-    written-down q h =
-        record {
-          long = length-set ways (to + i) v ∙ s .long;
-          inside = λ j l u. set-inside j (eqb j i) refl (λ n. s .inside j (omega (arith, n)) u);
-          outside = λ p o. getD-set-other ways (to + i) p v 0 (λ r. ⊎-elim (λ l. omega arith) (λ l. omega arith) o)
-              ∙ s .outside p (⊎-elim (λ l. inl (omega arith)) (λ l. inr l) o);
-        }
 
 -- ---- a row of ways
 

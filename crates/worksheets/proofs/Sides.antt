@@ -20,9 +20,9 @@ use Rattle.laws.specs.Orders.{Ranking, ranked}
 use Rattle.laws.specs.States.{matches, first, next, longest-matches, longest-le, next-le}
 use Rattle.laws.specs.Tables.{antemerOk, antemerEnd, antemerWays, postmerOk, postmerEnd, postmerWays, ways-free, antemers-table, postmers-table, postmer-end, antemer-stop}
 use Rattle.laws.specs.Bans.{never, ban, ban-le, ban-most, lowBy, lasts, antemer-row, postmer-row, word-allowed}
-use Rattle.states.specs.Tables.{LettersOf}
+use Rattle.states.specs.Tables.{LettersOf, next-entry, ban-entry}
 use Rattle.worksheets.specs.Columns.{BansOf, MovesOf, UpTo, ReachIs, EndsAre, LastsIs, endWays, Counts, AntemersAre, PostmersAre}
-use Rattle.worksheets.proofs.Laws.{letters-agree, moves-bans, next-entry, ban-entry, own-later}
+use Rattle.worksheets.proofs.Laws.{letters-agree, moves-bans, own-later}
 use Rattle.worksheets.proofs.Rows.{upTo-column}
 
 -- the ways to complete a state below so many to an antemer by n letters; from the others there are none
@@ -125,7 +125,7 @@ module _ {ρ : Ranking} {w : Word} {m : ℕ} {own nexts bans : List ℕ} (s : Mo
 
   -- a ban is at most m, or never
   ban-low : (i b : ℕ) → i ≤ m → b < 4 → (getD bans (4 * i + b) 0 ≤ m) ⊎ (getD bans (4 * i + b) 0 ≡ never)
-  ban-low i b h k = rw (ban-entry (moves-bans s) i b h k) (go (ltb (ban w (lowBy ρ w) i b) never) refl)
+  ban-low i b h k = rw (ban-entry (s .word) ρ (s .links .bans) i b h k) (go (ltb (ban w (lowBy ρ w) i b) never) refl)
     where
       go : (t : Bool) → ltb (ban w (lowBy ρ w) i b) never ≡ t → (ban w (lowBy ρ w) i b ≤ m) ⊎ (ban w (lowBy ρ w) i b ≡ never)
       go true e = inl (omega (arith, s .word .long, ban-most w (lowBy ρ w) i b (ltb-true (ban w (lowBy ρ w) i b) never e)))
@@ -138,7 +138,7 @@ module _ {ρ : Ranking} {w : Word} {m : ℕ} {own nexts bans : List ℕ} (s : Mo
       ≡ total (map (λ b. cond (ltb left′ (getD bans (4 * i + b) 0)) (W (getD nexts (4 * i + b) 0) n) 0) letters)
   by-tables W i n left left′ h e =
       letters-agree (λ b. cond (ltb left (ban w (lowBy ρ w) i b)) (W (next w i b) n) 0) (λ b. cond (ltb left′ (getD bans (4 * i + b) 0)) (W (getD nexts (4 * i + b) 0) n) 0)
-      (λ b k. rw (ban-entry (moves-bans s) i b h k, next-entry (s .word) (s .links .nexts) i b h k, e))
+      (λ b k. rw (ban-entry (s .word) ρ (s .links .bans) i b h k, next-entry (s .word) (s .links .nexts) i b h k, e))
 
   module _ (k : ℕ) (h : m ≤ k) (f : k ≤ 31) where
     -- the antemers are counted from state 0, with w to follow; from the states from `live` on there is no way

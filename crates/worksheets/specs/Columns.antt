@@ -60,10 +60,6 @@ pub record UpTo (n to : ℕ) (given : ℕ → ℕ) (list : List ℕ) : Type 0 wh
   pub below : (i : ℕ) → i < to → getD list i 0 ≡ given i
   pub above : (i : ℕ) → to ≤ i → getD list i 0 ≡ 0
 
--- the powers of four
-pub record PowersAre (powers : List ℕ) : Type 0 where
-  pub each : (n : ℕ) → n < 32 → getD powers n 0 ≡ 4 ^ n
-
 -- ---- where antemers end
 
 -- whether the m-mer that has the first i letters of w and then w's first letters again comes out below w, or is w
@@ -136,12 +132,6 @@ pub record RowReady (lo hi done : ℕ) (allowed ways : List ℕ) : Type 0 where
 pub record FreeReady (free r : ℕ) (ways : List ℕ) : Type 0 where
   pub longWays : length ways ≡ 64
   pub fits : r + free ≤ 64
-
--- behind `to`, the entries from lo to below hi are written and no other is
-pub record Written (lo hi to : ℕ) (new : ℕ → ℕ) (old ways : List ℕ) : Type 0 where
-  pub long : length ways ≡ length old
-  pub inside : (i : ℕ) → lo ≤ i → i < hi → getD ways (to + i) 0 ≡ new i
-  pub outside : (p : ℕ) → (p < to + lo) ⊎ (to + hi ≤ p) → getD ways p 0 ≡ getD old p 0
 
 -- ---- a column
 

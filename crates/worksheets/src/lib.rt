@@ -8,8 +8,10 @@
 ghost use mathlib.Core.Path.{_≡_};
 ghost use Prim.Native.Nat.{suc, _-_, _^_, _≤_, _<_};
 ghost use Rattle.definitions.specs.Outcomes.{worksheetOutcome, sizeOutcome};
+ghost use Rattle.laws.specs.Rooms.{Written};
+ghost use Rattle.words.specs.Powers.{PowersAre};
 ghost use Rattle.states.specs.Tables.{Known, All, AlphabetsOf};
-ghost use Rattle.worksheets.specs.Columns.{BansOf, MovesOf, NextsOf, StatesOf, entryOf, EntryReady, PowersAre, CaughtIs, EndIs, EndsAre, ReachIs, LastsIs, leadsTo, AllowedBy, wayOf, sumOf, WayReady, SumReady, RowReady, FreeReady, Written, TurnReady, Turned, Countable, CountedBy, AntemersAre, PostmersAre, SheetIs, productSum};
+ghost use Rattle.worksheets.specs.Columns.{BansOf, MovesOf, NextsOf, StatesOf, entryOf, EntryReady, CaughtIs, EndIs, EndsAre, ReachIs, LastsIs, leadsTo, AllowedBy, wayOf, sumOf, WayReady, SumReady, RowReady, FreeReady, TurnReady, Turned, Countable, CountedBy, AntemersAre, PostmersAre, SheetIs, productSum};
 ghost use Rattle.worksheets.specs.Answers.{worked, counted};
 
 // How a letter is marked in the special alphabets.

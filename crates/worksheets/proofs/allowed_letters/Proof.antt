@@ -7,8 +7,8 @@ use native.Mathlib.Numerals.{add-one}
 use native.Mathlib.Omega.{arith}
 use borrow.Author.Needs.{needs}
 use lib.ListN.{getD}
-use Rattle.worksheets.specs.Columns.{leadsTo, Written}
-use Rattle.worksheets.proofs.Rows.{written-none, written-up}
+use Rattle.laws.specs.Rooms.{Written, written-none, written-up}
+use Rattle.worksheets.specs.Columns.{leadsTo}
 use Rattle.worksheets.proofs.allowed_letters.Statement.{statement}
 use Rattle.worksheets.proofs.allowed_letters.Tie as tie
 

@@ -4,8 +4,7 @@ use Prim.Native.Nat.{_+_, _-_, _≤_, _<_}
 use mathlib.Core.Path.{_≡_, refl}
 use native.Mathlib.Numerals.{add-one}
 use native.Mathlib.Omega.{arith}
-use Rattle.worksheets.specs.Columns.{Written}
-use Rattle.worksheets.proofs.Rows.{written-none, written-up}
+use Rattle.laws.specs.Rooms.{Written, written-none, written-up}
 use Rattle.worksheets.proofs.free_row.Statement.{statement}
 use Rattle.worksheets.proofs.free_row.Tie as tie
 

@@ -6,8 +6,9 @@ use mathlib.Core.Path.{_≡_, refl, _∙_}
 use native.Mathlib.Numerals.{add-one}
 use native.Mathlib.Omega.{arith}
 use lib.ListN.{set}
-use Rattle.worksheets.specs.Columns.{sumOf, Written, RowReady, SumReady}
-use Rattle.worksheets.proofs.Rows.{written-none, written-down, sum-ready, sum-kept, sum-inside}
+use Rattle.laws.specs.Rooms.{Written, written-none, written-down}
+use Rattle.worksheets.specs.Columns.{sumOf, RowReady, SumReady}
+use Rattle.worksheets.proofs.Rows.{sum-ready, sum-kept, sum-inside}
 use Rattle.worksheets.proofs.ways_row.Statement.{statement}
 use Rattle.worksheets.proofs.ways_row.Tie as tie
 
