@@ -15,7 +15,7 @@ use Rattle.definitions.specs.Words.{Word, word, isLetter}
 use Rattle.definitions.specs.Vigemins.{Form, keyed, windows}
 use Rattle.definitions.specs.Shelves.{size}
 use Rattle.definitions.specs.Refusals.{Ground, refusal, badKey, badWord, badSequence, badLetter, badRoom, badStart, badCounter, firstBad, placeBeside}
-use Rattle.definitions.specs.Outcomes.{packGrounds, unpackGrounds, orderGrounds, shelfGrounds, counterGrounds, pageGrounds, scanGrounds, packAnswer, unpackAnswer, sizeAnswer, sizeOutcome, worksheetAnswer, scanAnswer, asBytes, scanBytesOutcome}
+use Rattle.definitions.specs.Outcomes.{packGrounds, unpackGrounds, orderGrounds, shelfGrounds, counterGrounds, pageGrounds, scanGrounds, packAnswer, unpackAnswer, sizeAnswer, sizeOutcome, worksheetAnswer, counterAnswer, pageAnswer, scanAnswer, asBytes, scanBytesOutcome}
 use Rattle.laws.specs.Numbers.{firstBad-all}
 use Rattle.laws.specs.Refusals.{refusal-unmet, unmet-refusal, refusal-append, refusal-most}
 
@@ -207,6 +207,18 @@ pub worksheetAnswer-refusal : (r : ℕ) (f : Form) (k m : ℕ) (w : Word) → wo
 unfolding worksheetAnswer
 worksheetAnswer-refusal zero f k m w = refl
 worksheetAnswer-refusal (suc r) f k m w = refl
+
+-- of the plain counter
+pub counterAnswer-refusal : (r : ℕ) (f : Form) (a : ℕ) (w : Word) → counterAnswer r f a w .refusal ≡ r
+unfolding counterAnswer
+counterAnswer-refusal zero f a w = refl
+counterAnswer-refusal (suc r) f a w = refl
+
+-- of a page
+pub pageAnswer-refusal : (r : ℕ) (f : Form) (k : ℕ) (w : Word) (start : ℕ) (room : List ℕ) → pageAnswer r f k w start room .refusal ≡ r
+unfolding pageAnswer
+pageAnswer-refusal zero f k w start room = refl
+pageAnswer-refusal (suc r) f k w start room = refl
 
 -- of a scan
 pub scanAnswer-refusal : (r : ℕ) (entries : List ℕ → List ℕ) (f : Form) (k m : ℕ) (s room : List ℕ) → scanAnswer r entries f k m s room .refusal ≡ r

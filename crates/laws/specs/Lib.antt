@@ -4,7 +4,7 @@
 -- Tests, Filters, Places    tests joined; what is chosen from lists and from all words of n + 1 letters; tests at the places below n
 -- Numbers                   words and numbers: one-to-one, in order, ⊕ as XOR, the m-mer at a place, letters and bytes
 -- Minima, Scans             the leftmost least of any values; windows; the vigemin's position; the positions of a scan
--- Rooms                     room that is written entry by entry
+-- Rooms                     room that is written entry by entry, from its start on or behind a place
 -- Stamps                    values with their places behind them: the least of two stretches is the lesser of two numbers
 -- Rolls                     words that roll, one letter out and one in; the scan by the values of all m-mers
 -- Counting, Walks           how many words pass a test; tables by states; the r-th word, the place of a word, the next word
@@ -20,7 +20,9 @@
 -- Print                     four errors of the printed rules, each with a computed case
 -- Refusals                  the refusal given is met, and the lowest where the numbers increase
 -- Accepted                  what holds of the inputs of an operation exactly if it refuses nothing
--- RoundTrips                packing and unpacking lead back to each other; a scan agrees with the vigemin of each window
+-- RoundTrips                packing and unpacking lead back to each other; a scan agrees with the vigemin of each window, and the plain
+--                           counter with the worksheet
+-- Listings                  pages taken one after the other are the shelf
 pub mod Tests
 pub mod Filters
 pub mod Places
@@ -52,3 +54,4 @@ pub mod Print
 pub mod Refusals
 pub mod Accepted
 pub mod RoundTrips
+pub mod Listings

@@ -1,21 +1,26 @@
--- Outcomes of operations that lead back to each other: packing and unpacking, and a scan and the vigemin of each of its windows.
+-- Outcomes of operations that lead back to each other or agree: packing and unpacking, a scan and the vigemin of each of its windows, the
+-- plain counter and the worksheet.
 -- Assumes nothing.
 use Prim.Native.Nat.{ℕ, suc, _+_, _-_, _^_, _≤_, _<_}
-use mathlib.Core.Bool.{true}
+use mathlib.Core.Bool.{Bool, true}
 use mathlib.Core.List.{List}
 use mathlib.Core.Path.{_≡_, refl, sym, ap, _∙_}
 use native.Mathlib.Omega.{arith}
+use borrow.Author.Tests.{le-leb}
+use lib.Dec.{leb}
 use lib.ListN.{length, getD, take, drop, length-map, List·getD-append}
 use lib.Seq.{take-at}
 use Rattle.definitions.specs.Lists.{all, over}
 use Rattle.definitions.specs.Words.{Letters, val, word, letterOf, isLetter, spelled, text}
 use Rattle.definitions.specs.Vigemins.{Form, keyed, windows, vigeminAt, vigemin, scan}
+use Rattle.definitions.specs.Shelves.{antemers, row}
 use Rattle.definitions.specs.Refusals.{refusal}
-use Rattle.definitions.specs.Outcomes.{Packed, packGrounds, packAnswer, packOutcome, unpackGrounds, unpackAnswer, unpackOutcome, vigeminAnswer, vigeminOutcome, scanGrounds, scanAnswer, scanOutcome}
+use Rattle.definitions.specs.Outcomes.{Packed, packGrounds, packAnswer, packOutcome, unpackGrounds, unpackAnswer, unpackOutcome, vigeminAnswer, vigeminOutcome, worksheetAnswer, worksheetOutcome, counterGrounds, counterAnswer, counterOutcome, scanGrounds, scanAnswer, scanOutcome}
+use Rattle.laws.specs.Filters.{tabulate-at}
 use Rattle.laws.specs.Numbers.{four-pos, number-lt, length-digits, digits-below, number-digits-lt, digits-number, spelled-text, text-spelled, spelled-letters, text-letters}
 use Rattle.laws.specs.Minima.{length-stretch, all-stretch, map-stretch, length-windows}
 use Rattle.laws.specs.Scans.{length-scan, scan-at, scan-inside, scan-word}
-use Rattle.laws.specs.Accepted.{PackAccepted, pack-accepted, accepted-pack, UnpackAccepted, unpack-accepted, accepted-unpack, VigeminAccepted, accepted-word, ScanAccepted, scan-accepted, accepted-scan, packAnswer-refusal, unpackAnswer-refusal, scanAnswer-refusal}
+use Rattle.laws.specs.Accepted.{PackAccepted, pack-accepted, accepted-pack, UnpackAccepted, unpack-accepted, accepted-unpack, VigeminAccepted, accepted-word, counter-accepted, accepted-counter, counterAnswer-refusal, ScanAccepted, scan-accepted, accepted-scan, packAnswer-refusal, unpackAnswer-refusal, scanAnswer-refusal}
 
 -- ---- what is answered where nothing is refused
 
@@ -162,3 +167,17 @@ scan-vigemin k m key s room p z b =
     let a : ScanAccepted k m key s 1 room = scanned-accepted k m key s room z in
     let c : p < suc (length s) - k = rw (scan-outcome a, length-windows) at b in
     window-agrees k m key s room p a (omega arith)
+
+-- ---- the plain counter and the worksheet
+
+-- the plain counter's answer is the number of antemers in row k − m of the worksheet
+pub counter-row : (k m key w : ℕ) → counterOutcome k m key w .refusal ≡ 0
+    → counterOutcome k m key w .count ≡ getD (worksheetOutcome k m key w .antemers) (k - m) 0
+unfolding counterOutcome worksheetOutcome counterAnswer worksheetAnswer
+counter-row k m key w z =
+    let a = counter-accepted k m key w (sym (counterAnswer-refusal (refusal (counterGrounds k m key w)) (keyed (word m key)) (k - m) (word m w)) ∙ z) in
+    let order = a .shelf .order in
+    let count = antemers (keyed (word m key)) (word m w) in
+    rw (accepted-counter a, accepted-word (a .shelf))
+    (sym (tabulate-at (λ i. row (leb (m + i) k) count i) 31 (k - m) 0 (omega (arith, order .kFew, order .mSome, order .mFits))
+    ∙ ap (λ (t : Bool). row t count (k - m)) (le-leb (m + (k - m)) k (omega (arith, order .mFits)))))
