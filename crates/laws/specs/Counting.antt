@@ -186,6 +186,13 @@ increasing-once l h i j a b e =
     let down : ¬ (j < i) = λ ji. ne-of-lt (increasing-lt l h j i ji a) (sym e) in
     omega arith
 
+-- some entries that are all one entry, and have increasing numbers, are this entry alone
+pub increasing-alone : {A : Type 0} (v : A → ℕ) (u : A) (l : List A) → ((x : A) → List·Memᴰ x l → x ≡ u) → Increasing (map v l) → 0 < length l → l ≡ u ∷ []
+increasing-alone v u [] h i p = absurd (omega arith)
+increasing-alone v u (x ∷ []) h i p = ap (λ a. a ∷ []) (h x (List·Memᴰ·head refl))
+increasing-alone v u (x ∷ y ∷ l) h i p =
+    absurd (ne-of-lt (i .0 .0) (ap v (h x (List·Memᴰ·head refl) ∙ sym (h y (List·Memᴰ·tail (List·Memᴰ·head refl))))))
+
 module _ {A : Type 0} (v : A → ℕ) where
   put-above : (t : Bool) (a : ℕ) (x : A) (l : List A) → a < v x → Above a (map v l) → Above a (map v (put t x l))
   put-above true a x l h r = (h, r)

@@ -148,6 +148,19 @@ module _ {A : Type 0} where
   at-map f (a ∷ l) d e zero h = refl
   at-map f (a ∷ l) d e (suc i) h = at-map f l d e i (le-of-suc-le-suc h)
 
+module _ {A B : Type 0} (f : A → B) where
+  -- the first of what a function gives
+  pub take-map : (n : ℕ) (l : List A) → take n (map f l) ≡ map f (take n l)
+  take-map zero l = refl
+  take-map (suc n) [] = refl
+  take-map (suc n) (a ∷ l) = ap (λ (r : List B). f a ∷ r) (take-map n l)
+
+  -- what a function gives from a place on
+  pub drop-map : (n : ℕ) (l : List A) → drop n (map f l) ≡ map f (drop n l)
+  drop-map zero l = refl
+  drop-map (suc n) [] = refl
+  drop-map (suc n) (a ∷ l) = drop-map n l
+
 module _ {A : Type 0} where
   -- a table of f has n entries
   pub length-tabulate : (f : ℕ → A) (n : ℕ) → length (tabulate f n) ≡ n

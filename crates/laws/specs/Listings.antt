@@ -1,21 +1,21 @@
 -- Pages taken one after the other: each is lent a room of its own and goes on from where the one before stopped. Together they are the
 -- shelf, whatever the rooms.
 -- Assumes nothing.
-use Prim.Native.Nat.{ℕ, zero, suc, _+_, _-_, _≤_, _<_, min}
+use Prim.Native.Nat.{ℕ, _+_, _-_, _≤_, _<_, min}
 use mathlib.Core.Bool.{Bool, true, false}
 use mathlib.Core.List.{List, [], _∷_, _++_, map, map-append}
 use mathlib.Core.Path.{_≡_, refl, sym, ap, ap₂, _∙_}
 use native.Mathlib.Omega.{arith}
 use borrow.Author.Tests.{leb-true, leb-false}
 use lib.Dec.{leb}
-use lib.ListN.{length, take, drop, length-map, drop-of-length-le}
+use lib.ListN.{length, take, length-map, drop-of-length-le}
 use lib.Seq.{take-at}
 use Rattle.definitions.specs.Lists.{total, over}
 use Rattle.definitions.specs.Words.{Word, word, val}
 use Rattle.definitions.specs.Vigemins.{Form, keyed}
 use Rattle.definitions.specs.Shelves.{shelf, size, page}
 use Rattle.definitions.specs.Outcomes.{Paged, pageAnswer, pageOutcome}
-use Rattle.laws.specs.Accepted.{ShelfAccepted, PageAccepted, accepted-page}
+use Rattle.laws.specs.Accepted.{ShelfAccepted, accepted-page}
 use Rattle.laws.specs.Catalogue.{page-length, pages-join, page-whole}
 
 -- what a page handed out: as many entries of its room as it wrote
@@ -110,8 +110,8 @@ module _ {k m key w : ℕ} (a : ShelfAccepted k m key w) where
       goes-on false e =
           let far : size f k v - start < length room = leb-false (length room) (size f k v - start) e in
           ap (take (roomOf rooms)) (
-            drop-of-length-le (shelf f k v) {i = start + turn start room .written} (omega (arith, page-written start room h))
-            ∙ sym (drop-of-length-le (shelf f k v) {i = start + length room} (omega arith))
+          drop-of-length-le (shelf f k v) {i = start + turn start room .written} (omega (arith, page-written start room h))
+          ∙ sym (drop-of-length-le (shelf f k v) {i = start + length room} (omega arith))
           )
 
   -- from place 0 until the size is reached they hand out the shelf

@@ -120,6 +120,14 @@ digits-part b p m k x h = rw (drop-digits, take-digits b m (k - p) x (omega arit
 pub window-number : (p m k x : ℕ) → p + m ≤ k → val (take m (drop p (word k x))) ≡ x / 4 ^ (k - m - p) % 4 ^ m
 window-number p m k x h = ap val (digits-part 4 p m k x h) ∙ number-digits four-pos m (x / 4 ^ (k - m - p))
 
+-- the number of a word's last letters
+pub val-drop : (w : Word) (i n : ℕ) → Letters w → i + n ≡ length w → val (drop i w) ≡ val w % 4 ^ n
+val-drop w i n h e =
+    ap (λ (u : Word). val (drop i u)) (sym (digits-number 4 w h refl))
+    ∙ ap val (drop-digits 4 i (length w) (val w))
+    ∙ number-digits four-pos (length w - i) (val w)
+    ∙ ap (λ (k : ℕ). val w % 4 ^ k) (omega arith)
+
 -- x is below y, or, where that is asked, at most y
 abbrev pub atMost : Bool → ℕ → ℕ → Bool
 atMost false x y = ltb x y

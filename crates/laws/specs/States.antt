@@ -157,3 +157,10 @@ module _ (w : Word) where
       go true q = leb-true (next i b) (suc i) q
       go false q =
           absurd (contrary (matches (next i b) (b ∷ first i)) (longest-matches (length w) (b ∷ first i)) (matches-long i b (next i b) (leb-false (next i b) (suc i) q)))
+
+-- only w's own letter leads to the state above
+pub next-own : (w : Word) (i b : ℕ) → next w i b ≡ suc i → b ≡ getD w i 0
+next-own w i b e =
+    eqb-true b (getD w i 0)
+    (and-l (eqb b (getD w i 0)) (matches w i (first w i))
+    (ap (λ (l : ℕ). matches w l (b ∷ first w i)) (sym e) ∙ longest-matches w (length w) (b ∷ first w i)))

@@ -7,9 +7,9 @@ use mathlib.Core.List.{[], _∷_, _++_, map}
 use mathlib.Core.Path.{_≡_, refl, sym, ap, ap₂, fun-ext, _∙_}
 use native.Mathlib.Nat.{zero-add, add-zero, not-suc-le-zero}
 use native.Mathlib.Omega.{arith}
-use borrow.Author.Tests.{leb-true, leb-false, lt-leb, eqb-true, eq-eqb}
+use borrow.Author.Tests.{leb-true, leb-false, lt-leb, eqb-true, eqb-false, eq-eqb, ne-eqb}
 use lib.Dec.{ltb, leb, eqb}
-use lib.ListN.{length, getD, take, drop, length-append, length-drop, take-append-drop}
+use lib.ListN.{length, getD, take, drop, length-append, length-drop, take-append-drop, drop-of-length-le}
 use lib.Seq.{take-suc, take-length, drop-length, drop-cons}
 use Rattle.definitions.specs.Lists.{filter, total}
 use Rattle.definitions.specs.Words.{Word, Letters, letters, words, same}
@@ -19,7 +19,7 @@ use Rattle.laws.specs.Tests.{not-or, and-l, and-r, and-i, and-cong, and-
 use Rattle.laws.specs.Counting.{count, filter-cong, count-cong, count-fixed, count-first}
 use Rattle.laws.specs.Walks.{accepts, ways, ways-count, count-accepted}
 use Rattle.laws.specs.Orders.{Ranking, OneToOne, ranked, vigemin-exactly}
-use Rattle.laws.specs.States.{matches, first, state, next, longest-matches, longest-max, longest-le, matches-first, matches-all, matches-short, state-matches, state-step, state-first, next-le}
+use Rattle.laws.specs.States.{matches, first, state, next, longest-matches, longest-max, longest-le, matches-first, matches-all, matches-short, state-matches, state-step, state-first, next-le, next-own}
 use Rattle.laws.specs.Places.{anyTo, anyTo-there, anyTo-cong, anyTo-none, anyTo-last, anyTo-mono}
 use Rattle.laws.specs.Threads.{caught, oldCaught, newCaught, bad, run, threads-new}
 use Rattle.laws.specs.Acceptors.{belowHit, noHit, postmer-threads, antemer-threads, holds-threads}
@@ -369,6 +369,43 @@ module _ (ρ : Ranking) (one : OneToOne ρ) (w : Word) (hw : Letters w) (m : 0 <
   -- the shelf is what the table walks through
   pub shelf-table : (k : ℕ) → shelf (ranked ρ) k w ≡ filter (accepts (shelfOk ρ w) (shelfStep ρ w) (shelfEnd ρ w) (false, zero)) (words k)
   shelf-table k = filter-cong _ _ k (λ x h. shelf-accepted x (h .1))
+
+module _ (ρ : Ranking) (w : Word) where
+  -- at state m the word is met
+  pub shelf-full : (h : Bool) (i : ℕ) (z : Word) → i ≡ length w
+      → accepts (shelfOk ρ w) (shelfStep ρ w) (shelfEnd ρ w) (h, i) z ≡ accepts (shelfOk ρ w) (shelfStep ρ w) (shelfEnd ρ w) (true, i) z
+  shelf-full true i z e = refl
+  shelf-full false i [] e = eq-eqb i (length w) e
+  shelf-full false i (b ∷ z) e =
+      ap (λ (t : Bool). postmerOk ρ w i (length z) b && accepts (shelfOk ρ w) (shelfStep ρ w) (shelfEnd ρ w) (t, next w i b) z) (eq-eqb i (length w) e)
+
+  -- fewer letters than the rest of w do not meet it
+  pub shelf-short : (i : ℕ) (z : Word) → i + length z < length w → accepts (shelfOk ρ w) (shelfStep ρ w) (shelfEnd ρ w) (false, i) z ≡ false
+  shelf-short i [] h = ne-eqb i (length w) (λ e. omega arith)
+  shelf-short i (b ∷ z) h =
+      and-none (postmerOk ρ w i (length z) b) (accepts (shelfOk ρ w) (shelfStep ρ w) (shelfEnd ρ w) (eqb i (length w), next w i b) z)
+      (ap (λ (t : Bool). accepts (shelfOk ρ w) (shelfStep ρ w) (shelfEnd ρ w) (t, next w i b) z) (ne-eqb i (length w) (λ e. omega arith))
+      ∙ shelf-short (next w i b) z (omega (arith, next-le w i b)))
+
+  -- of just as many letters, the rest of w alone meets it
+  pub shelf-rest : (i : ℕ) (z : Word) → i + length z ≡ length w → accepts (shelfOk ρ w) (shelfStep ρ w) (shelfEnd ρ w) (false, i) z ≡ true → z ≡ drop i w
+  shelf-rest i [] h e = sym (drop-of-length-le w {i = i} (omega arith))
+  shelf-rest i (b ∷ z) h e =
+      go (eqb (next w i b) (suc i)) refl
+      (ap (λ (t : Bool). accepts (shelfOk ρ w) (shelfStep ρ w) (shelfEnd ρ w) (t, next w i b) z) (sym (ne-eqb i (length w) (λ q. omega arith)))
+      ∙ and-r (postmerOk ρ w i (length z) b) (accepts (shelfOk ρ w) (shelfStep ρ w) (shelfEnd ρ w) (eqb i (length w), next w i b) z) e)
+      (shelf-rest (next w i b) z)
+    where
+      go : (t : Bool) → eqb (next w i b) (suc i) ≡ t → accepts (shelfOk ρ w) (shelfStep ρ w) (shelfEnd ρ w) (false, next w i b) z ≡ true
+          → (next w i b + length z ≡ length w → accepts (shelfOk ρ w) (shelfStep ρ w) (shelfEnd ρ w) (false, next w i b) z ≡ true → z ≡ drop (next w i b) w)
+          → b ∷ z ≡ drop i w
+      go true q a rec =
+          let up : next w i b ≡ suc i = eqb-true (next w i b) (suc i) q in
+          ap₂ (λ (x : ℕ) (y : Word). x ∷ y) (next-own w i b up) (rec (omega arith) a ∙ ap (λ (j : ℕ). drop j w) up)
+          ∙ sym (drop-cons w i 0 (omega arith))
+      go false q a rec =
+          absurd (contrary (accepts (shelfOk ρ w) (shelfStep ρ w) (shelfEnd ρ w) (false, next w i b) z) a
+          (shelf-short (next w i b) z (omega (arith, next-le w i b, eqb-false (next w i b) (suc i) q))))
 
 -- once w was met, the ways to go on are those of a postmer
 pub ways-met : (ρ : Ranking) (w : Word) → 0 < length w → (i n : ℕ) → shelfWays ρ w (true, i) n ≡ postmerWays ρ w i n

@@ -1,23 +1,22 @@
 -- What stands at a place of the tables of the states of a word, sums over the letters, and numbers that fit.
 -- Assumes nothing.
-use Prim.Native.Nat.{ℕ, _+_, _-_, _*_, _^_, _≤_, _<_}
+use Prim.Native.Nat.{ℕ, _+_, _-_, _*_, _≤_, _<_}
 use mathlib.Core.Bool.{Bool, true, false, cond}
 use mathlib.Core.List.{List, map}
 use mathlib.Core.Path.{_≡_, ap, _∙_}
 use native.Mathlib.Omega.{arith}
 use mir.Syntax.{w64}
 use mir.Val.{Fits}
-use borrow.Author.Tests.{lt-ltb, le-ltb, le-leb}
+use borrow.Author.Tests.{lt-ltb, le-ltb}
 use lib.Dec.{ltb, eqb}
 use lib.ListN.{length, getD}
-use Rattle.definitions.specs.Lists.{tabulate, total}
+use Rattle.definitions.specs.Lists.{total}
 use Rattle.definitions.specs.Words.{Word, letters}
 use Rattle.laws.specs.Numbers.{letter-lt, row-agree}
-use Rattle.laws.specs.Filters.{tabulate-at}
 use Rattle.laws.specs.Orders.{Ranking}
 use Rattle.laws.specs.States.{next, next-le}
 use Rattle.laws.specs.Bans.{never, ban, lowBy, ban-own, ban-le}
-use Rattle.states.specs.Grids.{grid, grid-at}
+use Rattle.states.specs.Grids.{grid-at}
 use Rattle.states.specs.Tables.{markOf, markAt, LettersOf, own-at, own-lt, next-entry, ban-entry, AlphabetsOf}
 use Rattle.worksheets.specs.Columns.{BansOf, MovesOf, NextsOf, StatesOf, entryOf, EntryReady}
 

@@ -8,16 +8,16 @@ use mathlib.Core.Logic.{_⊎_, inl, inr}
 use mathlib.Core.Path.{_≡_, refl, sym, ap, ap₂, fun-ext, _∙_}
 use native.Mathlib.Nat.{add-zero}
 use native.Mathlib.Omega.{arith}
-use borrow.Author.Tests.{ltb-true, ltb-false, eqb-true, lt-ltb, le-ltb}
-use lib.Dec.{ltb, leb, eqb}
+use borrow.Author.Tests.{ltb-true, ltb-false, lt-ltb, le-ltb}
+use lib.Dec.{ltb, leb}
 use lib.ListN.{length, getD}
 use Rattle.definitions.specs.Lists.{total}
 use Rattle.definitions.specs.Words.{Word, letters}
 use Rattle.definitions.specs.Shelves.{row, antemers, postmers}
-use Rattle.laws.specs.Tests.{and-l, leb-cong, leb-min}
+use Rattle.laws.specs.Tests.{leb-cong, leb-min}
 use Rattle.laws.specs.Walks.{ways-le}
 use Rattle.laws.specs.Orders.{Ranking, ranked}
-use Rattle.laws.specs.States.{matches, first, next, longest-matches, longest-le, next-le}
+use Rattle.laws.specs.States.{first, next, longest-le, next-le, next-own}
 use Rattle.laws.specs.Tables.{antemerOk, antemerEnd, antemerWays, postmerOk, postmerEnd, postmerWays, ways-free, antemers-table, postmers-table, postmer-end, antemer-stop}
 use Rattle.laws.specs.Bans.{never, ban, ban-le, ban-most, lowBy, lasts, antemer-row, postmer-row, word-allowed}
 use Rattle.states.specs.Tables.{LettersOf, next-entry, ban-entry}
@@ -48,13 +48,6 @@ row-last a x last h =
     ∙ ap (λ (t : Bool). leb a x && t) (leb-cong a (last - 1) (suc a) last (λ q. omega arith) (λ q. omega arith))
 
 -- ---- states
-
--- only w's own letter leads to the state above
-next-own : (w : Word) (i b : ℕ) → next w i b ≡ suc i → b ≡ getD w i 0
-next-own w i b e =
-    eqb-true b (getD w i 0)
-    (and-l (eqb b (getD w i 0)) (matches w i (first w i))
-    (ap (λ (l : ℕ). matches w l (b ∷ first w i)) (sym e) ∙ longest-matches w (length w) (b ∷ first w i)))
 
 module _ {ρ : Ranking} {w : Word} {live : ℕ} (c : ReachIs ρ w live) where
   -- a letter that is allowed with w and more to follow leads below `live`, or to state m, which has no way on
