@@ -236,6 +236,10 @@ pub four-pow : (n : ℕ) → 4 ^ n ≡ 2 ^ (2 * n)
 four-pow zero = refl
 four-pow (suc n) = rw (mul-suc, pow-add, pow-suc 4 n, four-pow n)
 
+-- a shift and a remainder cut the letter at a place out of a word
+pub letter-cut : (m x i j : ℕ) → suc (i + j) ≡ m → getD (word m x) i 0 ≡ x / 2 ^ (2 * j) % 4
+letter-cut m x i j e = rw four-pow at (digits-at 4 m x i j e)
+
 -- the mask of m letters keeps a number's last m letters
 pub mask-letters : (m n : ℕ) → bitAnd n (4 ^ m - 1) ≡ n % 4 ^ m
 mask-letters m n = rw four-pow (and-mask n (2 * m))

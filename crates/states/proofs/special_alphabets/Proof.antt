@@ -1,7 +1,7 @@
 -- `states::special_alphabets` meets its contract. The loop's invariant: the first p rows of both tables are written. The measure is how many
 -- letters are left.
 -- Assumes nothing.
-use Prim.Native.Nat.{ℕ, suc, _-_, _*_, _/_, _%_, _^_, _≤_, _<_}
+use Prim.Native.Nat.{ℕ, suc, _-_, _*_, _≤_, _<_}
 use mathlib.Core.List.{List, [], _∷_, map}
 use mathlib.Core.Path.{_≡_, refl, ap, fun-ext, _∙_}
 use native.Mathlib.Numerals.{add-one}
@@ -12,7 +12,7 @@ use lib.ListN.{length, getD, set, List·getD-eq-default}
 use lib.Seq.{sets}
 use Rattle.definitions.specs.Lists.{tabulate}
 use Rattle.definitions.specs.Words.{Word, letters, word as wordOf}
-use Rattle.laws.specs.Numbers.{four-pos, four-pow, length-digits, digits-below, digits-at}
+use Rattle.laws.specs.Numbers.{four-pos, length-digits, digits-below, letter-cut}
 use Rattle.laws.specs.Orders.{Ranking, keyRanking, keyed-one-to-one}
 use Rattle.states.specs.Grids.{grid, length-grid}
 use Rattle.states.specs.Tables.{markOf, ownOf, markAt}
@@ -49,10 +49,6 @@ module _ {ρ : Ranking} {w : Word} {p : ℕ} {own marks : List ℕ} (d : Marked 
   -- and so is that of the marks
   ranks-all : length w ≤ p → marks ≡ grid (markAt ρ w)
   ranks-all h = d .ranks ∙ ap grid (written-all (λ b. 2) (markAt ρ w) p (λ q k. fun-ext (λ b. rw (le-ltb q (length w) (omega arith)))))
-
--- the letter at a place of a word
-letter-at : (m x p : ℕ) → p < m → getD (wordOf m x) p 0 ≡ x / 2 ^ (2 * (m - 1 - p)) % 4
-letter-at m x p h = rw four-pow at (digits-at 4 m x p (m - 1 - p) (omega arith))
 
 -- the marks at a place, by the two letters that stand there
 marks-at : (m key x p : ℕ) → p < m → {letter keyLetter a c g t : ℕ} → getD (wordOf m x) p 0 ≡ letter → getD (wordOf m key) p 0 ≡ keyLetter
@@ -119,8 +115,8 @@ loop-again c =
     let start = c .before .before .before .before .before .before .before .before in
     let at = c .before .before .before .before .before .before .before .loop in
     let m = start .args .m in
-    let letter = letter-at m (start .args .word) (at .p) (omega arith) in
-    let keyLetter = letter-at m (start .args .key) (at .p) (omega arith) in
+    let letter = letter-cut m (start .args .word) (at .p) (m - 1 - at .p) (omega arith) in
+    let keyLetter = letter-cut m (start .args .key) (at .p) (m - 1 - at .p) (omega arith) in
     let last = c .before .before in
     let row = marks-at m (start .args .key) (start .args .word) (at .p) (omega arith) letter keyLetter
     (last .before .before .before .mark .ensures) (last .before .before .mark2 .ensures) (last .before .mark3 .ensures) (last .mark4 .ensures) in
