@@ -27,7 +27,7 @@ returns : tie.Need-returns Inv-loop μ-loop
 returns c =
     let at = c .before .before .before .loop in
     let start = c .before .before .before .before in
-    sym (searched-found (at .inv) (omega arith) (low-tested _ _ (start .args .i) (at .j) (at .inv .from) (c .before .compared .ensures) (omega arith) ∙ eq-eqb _ _ (c .if1 .taken)))
+    sym (searched-found (at .inv) (omega arith) (low-tested _ _ (start .args .i) (at .j) (at .inv .from) (c .before .compared .ensures) (omega arith) ∙ eq-eqb (c .before .compared .result) 0 (omega arith)))
 
 add-j : tie.Need-add-j Inv-loop μ-loop
 add-j c = omega (arith, c .before .before .before .before .pre .0 .few)
@@ -39,7 +39,7 @@ loop-again : tie.Need-loop-again Inv-loop μ-loop
 loop-again c =
     let at = c .before .before .before .loop in
     let start = c .before .before .before .before in
-    searched-more (at .inv) (omega arith) (low-tested _ _ (start .args .i) (at .j) (at .inv .from) (c .before .compared .ensures) (omega arith) ∙ ne-eqb _ _ (c .if1 .left))
+    searched-more (at .inv) (omega arith) (low-tested _ _ (start .args .i) (at .j) (at .inv .from) (c .before .compared .ensures) (omega arith) ∙ ne-eqb (c .before .compared .result) 0 (omega arith))
 
 returns-2 : tie.Need-returns-2 Inv-loop μ-loop
 returns-2 c = sym (searched-none (c .before .loop .inv) (omega arith))

@@ -2,8 +2,10 @@
 -- is how many are left.
 -- Assumes nothing.
 use Prim.Native.Nat.{suc, _-_}
-use mathlib.Core.Path.{_∙_}
+use mathlib.Core.Bool.{true, _&&_}
+use mathlib.Core.Path.{_≡_, _∙_}
 use native.Mathlib.Omega.{arith}
+use lib.Dec.{eqb}
 use Rattle.definitions.specs.Words.{word as wordOf}
 use Rattle.laws.specs.Orders.{keyRanking}
 use Rattle.counters.proofs.Searches.{Searched, searched-first, searched-more, searched-first-place, searched-no-place}
@@ -40,7 +42,8 @@ returns c =
     let at = c .before .before .before .before .loop in
     let args = c .before .before .before .before .before .args in
     let tied = ties-tested _ _ (args .i) (at .j) (at .inv .from) (c .before .before .compared .ensures) (args .letter) (c .before .letter-sign .ensures) in
-    let found = searched-first-place (at .inv) (omega arith) (tied ∙ c .if1 .taken) in
+    let both : (eqb (c .before .before .compared .result) 1 && eqb (c .before .letter-sign .result) 1) ≡ true = c .if1 .taken in
+    let found = searched-first-place (at .inv) (omega arith) (tied ∙ both) in
     omega (arith, found)
 
 add-j : tie.Need-add-j Inv-loop μ-loop

@@ -2,8 +2,10 @@
 -- letter neither lies in Σ(i-j+2) nor is a(i-j+2). The measure is how many are left.
 -- Assumes nothing.
 use Prim.Native.Nat.{suc, _-_}
-use mathlib.Core.Path.{_∙_}
+use mathlib.Core.Bool.{true, _&&_}
+use mathlib.Core.Path.{_≡_, _∙_}
 use native.Mathlib.Omega.{arith}
+use lib.Dec.{eqb}
 use Rattle.definitions.specs.Words.{word as wordOf}
 use Rattle.laws.specs.Orders.{keyRanking}
 use Rattle.counters.proofs.Searches.{Searched, searched-first, searched-more, searched-found, searched-none}
@@ -55,7 +57,8 @@ returns-2 c =
     let at = c .before .before .before .before .loop in
     let args = c .before .before .before .before .before .before .before .args in
     let tested = hinders-tested _ _ (args .i) (at .j) (at .inv .from) (c .before .before .compared .ensures) (args .letter) (c .before .letter-sign2 .ensures) in
-    hindered _ _ (args .i) (args .letter) (searched-found (at .inv) (omega arith) (tested ∙ c .if2 .taken))
+    let both : (eqb (c .before .before .compared .result) 1 && eqb (c .before .letter-sign2 .result) 0) ≡ true = c .if2 .taken in
+    hindered _ _ (args .i) (args .letter) (searched-found (at .inv) (omega arith) (tested ∙ both))
 
 add-j : tie.Need-add-j Inv-loop μ-loop
 add-j c = omega (arith, c .before .before .before .before .before .before .before .pre .0 .few)
