@@ -1,0 +1,447 @@
+-- Laws of listing: the k-mers under a beginning, by their next letter, and room into which they are written.
+-- Assumes nothing.
+use Prim.Native.Nat.{ℕ, zero, suc, _+_, _-_, _*_, _%_, _^_, _≤_, _<_, min}
+use mathlib.Core.Bool.{Bool, true, false, cond}
+use mathlib.Core.List.{List, [], _∷_, _++_, map, map-map, map-append, append-assoc, append-nil, List·Memᴰ, List·Memᴰ·not-nil}
+use mathlib.Core.Logic.{⊎-elim}
+use mathlib.Core.Path.{_≡_, refl, sym, ap, ap₂, fun-ext, _∙_}
+use native.Mathlib.Nat.{zero-add, suc-add, zero-sub, sub-zero, suc-sub-suc, add-assoc, suc-mul, add-mul, mul-assoc, mul-left-comm, mul-le-mul-left, mul-le-mul-right, pow-succ', one-le-pow, mod-lt, min-zero, suc-min-suc, zero-lt-suc}
+use native.Mathlib.Numerals.{add-one}
+use native.Mathlib.Omega.{arith}
+use lib.ListN.{length, getD, take, drop, set, length-append, length-take, length-drop, length-map, drop-of-length-le}
+use lib.Pow.{pow-add}
+use lib.Seq.{take-all, take-nil, drop-nil, take-suc, take-append-seam, drop-append-seam, drop-drop}
+use Rattle.definitions.specs.Lists.{put, filter, tabulate, over}
+use Rattle.definitions.specs.Words.{Word, letters, words, val}
+use Rattle.laws.specs.Numbers.{letters-at, four-pos}
+use Rattle.laws.specs.Filters.{joined, length-tabulate, tabulate-at, tabulate-agree, filter-le}
+use Rattle.laws.specs.Counting.{map-agree, filter-words, length-words, words-numbers}
+use Rattle.laws.specs.Walks.{accepts, rest, accepts-split, rest-count, ways-count, ways-le}
+use Rattle.laws.specs.Rooms.{overTo, length-overTo, overTo-more}
+use Rattle.shelves.proofs.Ways.{live-lt}
+use Rattle.shelves.specs.Descents.{allowed, leads, met, waysFrom, waysUnder, completing, Ready, numbered, under, Listed, Descending}
+
+-- ---- lists
+
+module _ {A : Type 0} where
+  -- what lies behind a place of two lists in a row
+  drop-append : (r : ℕ) (p a : List A) → drop r (p ++ a) ≡ drop r p ++ drop (r - length p) a
+  drop-append zero p a = rw zero-sub
+  drop-append (suc r) [] a = rw sub-zero
+  drop-append (suc r) (x ∷ p) a = rw suc-sub-suc (drop-append r p a)
+
+  -- the first entries of two lists in a row
+  take-append : (n : ℕ) (p a : List A) → take n (p ++ a) ≡ take n p ++ take (n - length (take n p)) a
+  take-append zero p a = refl
+  take-append (suc n) [] a = rw sub-zero
+  take-append (suc n) (x ∷ p) a = rw suc-sub-suc (ap (λ (l : List A). x ∷ l) (take-append n p a))
+
+  -- n entries from a place on of two lists in a row: those of the first, and what is left of n of the second
+  part-append : (n r : ℕ) (p a : List A)
+      → take n (drop r (p ++ a)) ≡ take n (drop r p) ++ take (n - length (take n (drop r p))) (drop (r - length p) a)
+  part-append n r p a = ap (take n) (drop-append r p a) ∙ take-append n (drop r p) (drop (r - length p) a)
+
+  -- two lists are written one after the other
+  over-append : (u v old : List A) → over (u ++ v) old ≡ take (length u) (over u old) ++ over v (drop (length u) (over u old))
+  over-append u v old =
+      rw (take-append-seam, drop-append-seam, append-assoc, length-append, ← drop-drop (length v) (length u) old)
+
+  -- writing keeps the length
+  length-over : (u old : List A) → length u ≤ length old → length (over u old) ≡ length old
+  length-over u old h = rw (length-append, length-drop) (omega arith)
+
+  -- what passes a test is all, where as many pass it as there are
+  filter-full : (p : A → Bool) (l : List A) → length (filter p l) ≡ length l → filter p l ≡ l
+  filter-full p [] e = refl
+  filter-full p (a ∷ l) e = go (p a) (λ h. filter-full p l h) e
+    where
+      go : (t : Bool) → (length (filter p l) ≡ length l → filter p l ≡ l) → length (put t a (filter p l)) ≡ suc (length l)
+          → put t a (filter p l) ≡ a ∷ l
+      go true rec h = ap (λ (r : List A). a ∷ r) (rec (omega arith))
+      go false rec h = absurd (omega (arith, filter-le p l))
+
+  -- a table from a place on is a table
+  drop-tabulate : (f : ℕ → A) (n r : ℕ) → drop r (tabulate f n) ≡ tabulate (λ i. f (r + i)) (n - r)
+  drop-tabulate f n zero = simp (zero-add, sub-zero)
+  drop-tabulate f zero (suc r) = rw zero-sub
+  drop-tabulate f (suc n) (suc r) = simp (suc-add, suc-sub-suc) (drop-tabulate (λ i. f (suc i)) n r)
+
+  -- no more is taken than there is
+  take-least : (l : List A) (k : ℕ) → take (min (length l) k) l ≡ take k l
+  take-least [] k = take-nil (min 0 k) ∙ sym (take-nil k)
+  take-least (x ∷ l) zero = rw min-zero
+  take-least (x ∷ l) (suc k) = rw suc-min-suc (ap (λ (r : List A). x ∷ r) (take-least l k))
+
+module _ {A B : Type 0} where
+  -- what some entries and then some more give
+  joined-append : (f : A → List B) (u v : List A) → joined f (u ++ v) ≡ joined f u ++ joined f v
+  joined-append f [] v = refl
+  joined-append f (a ∷ u) v = rw (joined-append f u v, append-assoc)
+
+  -- a function of what some entries give
+  map-joined : {C : Type 0} (g : B → C) (f : A → List B) (l : List A) → map g (joined f l) ≡ joined (λ a. map g (f a)) l
+  map-joined g f [] = refl
+  map-joined g f (a ∷ l) = rw (map-append, map-joined g f l)
+
+  -- a function of a table
+  map-tabulate : (g : A → B) (f : ℕ → A) (n : ℕ) → map g (tabulate f n) ≡ tabulate (λ i. g (f i)) n
+  map-tabulate g f zero = refl
+  map-tabulate g f (suc n) = ap (λ (r : List B). g (f zero) ∷ r) (map-tabulate g (λ i. f (suc i)) n)
+
+-- ---- room that is listed into
+
+-- of a list, as many entries are written as there are and the room takes
+listed-front : (new old : List ℕ) {room : List ℕ} {n : ℕ} → n ≡ min (length new) (length old) → room ≡ overTo n new old → Listed new 0 old room n
+listed-front new old {room} {n} e q =
+    let size : n ≡ length (take (length old) new) = omega (arith, length-take (length old) new) in
+    let part : take n new ≡ take (length old) new = ap (λ (i : ℕ). take i new) e ∙ take-least new (length old) in
+    record { count = size; fills = q ∙ ap₂ (λ (u : List ℕ) (i : ℕ). u ++ drop i old) part size }
+
+-- no more is written than the room takes
+listed-fits : {from old room : List ℕ} {skip written : ℕ} → Listed from skip old room written → written ≤ length old
+listed-fits {from} {old} {room} {skip} {written} l = omega (arith, l .count, length-take (length old) (drop skip from))
+
+-- into no room, nothing is written
+pub listed-full : {new room : List ℕ} {skip : ℕ} → length room ≡ 0 → Listed new skip room room 0
+listed-full e = record { count = rw e; fills = rw e }
+
+-- of nothing, nothing is written
+listed-none : (skip : ℕ) (room : List ℕ) → Listed [] skip room room 0
+listed-none skip room = record { count = rw (drop-nil skip, take-nil (length room)); fills = rw (drop-nil skip, take-nil (length room)) }
+
+-- one number is written
+listed-one : (x : ℕ) (room : List ℕ) → 0 < length room → Listed (x ∷ []) 0 room (set room 0 x) 1
+listed-one x [] h = absurd (omega arith)
+listed-one x (o ∷ os) h = record { count = rw (take-nil (length os)); fills = rw (take-nil (length os)) }
+
+module _ {from : List ℕ} (more : List ℕ) {old room : List ℕ} {skip written : ℕ} (l : Listed from skip old room written) where
+  -- behind what is written of a list, what follows it is written
+  listed-more : {after : List ℕ} {n : ℕ} → Listed more (skip - length from) (drop written room) after n
+      → Listed (from ++ more) skip old (take written room ++ after) (written + n)
+  listed-more {after} {n} k =
+      let u : List ℕ = take (length old) (drop skip from) in
+      let v : List ℕ = take (length (drop written room)) (drop (skip - length from) more) in
+      let fit : length u ≤ length old = omega (arith, length-take (length old) (drop skip from)) in
+      let left : length old - length u ≡ length (drop written room) =
+      omega (arith, length-drop written room, ap length (l .fills) ∙ length-over u old fit, l .count) in
+      let whole : take (length old) (drop skip (from ++ more)) ≡ u ++ v =
+      part-append (length old) skip from more ∙ ap (λ (i : ℕ). u ++ take i (drop (skip - length from) more)) left in
+      let front : take written room ≡ take (length u) (over u old) = ap₂ take (l .count) (l .fills) in
+      let back : after ≡ over v (drop (length u) (over u old)) = k .fills ∙ ap (over v) (ap₂ drop (l .count) (l .fills)) in
+      record {
+        count = omega (arith, ap length whole, length-append u v, l .count, k .count);
+        fills = ap₂ (λ (r a : List ℕ). r ++ a) front back ∙ sym (over-append u v old) ∙ ap (λ (r : List ℕ). over r old) (sym whole);
+      }
+
+  -- what is passed over is not written
+  listed-past : length more ≤ skip - length from → Listed (from ++ more) skip old room written
+  listed-past h =
+      let u : List ℕ = take (length old) (drop skip from) in
+      let same : take (length old) (drop skip (from ++ more)) ≡ u =
+      part-append (length old) skip from more
+      ∙ rw (drop-of-length-le more h, take-nil (length old - length u), append-nil) in
+      record { count = l .count ∙ ap length (sym same); fills = l .fills ∙ ap (λ (r : List ℕ). over r old) (sym same) }
+
+-- of the numbers from `first` on, `count` of them, i are written, and n are to be
+pub record Running (first count n : ℕ) (old room : List ℕ) (i : ℕ) : Type 0 where
+  pub least : n ≡ min count (length old)
+  pub within : i ≤ n
+  pub writes : room ≡ overTo i (tabulate (λ j. first + j) count) old
+
+module _ {first count n : ℕ} {old room : List ℕ} {i : ℕ} (r : Running first count n old room i) where
+  -- the room stays as long
+  pub running-long : length room ≡ length old
+  running-long =
+      length-overTo (tabulate (λ j. first + j) count) old {i = i} (r .writes) (rw length-tabulate (omega (arith, r .least, r .within))) (omega (arith, r .least, r .within))
+
+  -- one more is written
+  pub running-more : i < n → Running first count n old (set room i (first + i)) (suc i)
+  running-more h =
+      record {
+        least = r .least;
+        within = h;
+        writes = overTo-more (tabulate (λ j. first + j) count) old 0 (r .writes) (sym (tabulate-at (λ j. first + j) count i 0 (omega (arith, r .least))))
+            (rw length-tabulate (omega (arith, r .least))) (omega (arith, r .least));
+      }
+
+  -- all are written
+  pub running-all : n ≤ i → Listed (tabulate (λ j. first + j) count) 0 old room n
+  running-all h =
+      let all : i ≡ n = omega (arith, r .within) in
+      listed-front (tabulate (λ j. first + j) count) old (r .least ∙ ap (λ (k : ℕ). min k (length old)) (sym (length-tabulate (λ j. first + j) count)))
+      (r .writes ∙ ap (λ (k : ℕ). overTo k (tabulate (λ j. first + j) count) old) all)
+
+-- ---- the k-mers under a beginning
+
+-- what completes a state behind a letter has the letters that are left
+rest-length : (t : Bool) (p : Word → Bool) (n : ℕ) {z : Word} → List·Memᴰ z (cond t (filter p (words n)) []) → length z ≡ n
+rest-length true p n {z} m = filter-words p n z .0 m .0 .0
+rest-length false p n m = absurd (List·Memᴰ·not-nil m)
+
+-- a letter moves from what is left to what is begun
+begun-more : (begun b n v : ℕ) → begun * 4 ^ suc n + (b * 4 ^ n + v) ≡ (4 * begun + b) * 4 ^ n + v
+begun-more begun b n v = rw (pow-succ', add-mul, mul-assoc, mul-left-comm begun 4 (4 ^ n), add-assoc)
+
+-- under a letter with a way, the letter is allowed
+open-way : (t : Bool) (f : Word → ℕ) (l : List Word) (k p : ℕ) → p < cond t k 0 → (map f (cond t l []) ≡ map f l) × (p < k)
+open-way true f l k p h = (refl, h)
+open-way false f l k p h = absurd (omega arith)
+
+module _ (moves ban : List ℕ) (n s begun : ℕ) where
+  -- the numbers of the k-mers under a beginning whose next letter is b, where n letters follow it
+  abbrev pub underLetter : ℕ → List ℕ
+  underLetter b = numbered (4 * begun + b) n (rest (allowed ban) (leads moves) met s n b)
+
+  -- the k-mers under a beginning are those under each next letter
+  under-letters : under moves ban (suc n) s begun ≡ joined underLetter letters
+  under-letters =
+      ap (map number) (accepts-split (allowed ban) (leads moves) met s n)
+      ∙ map-joined number (λ b. map (λ (z : Word). b ∷ z) (behind b)) letters
+      ∙ ap (λ (f : ℕ → List ℕ). joined f letters) (fun-ext (λ b. one b))
+    where
+      number : Word → ℕ
+      number z = begun * 4 ^ suc n + val z
+
+      behind : ℕ → List Word
+      behind b = rest (allowed ban) (leads moves) met s n b
+
+      one : (b : ℕ) → map number (map (λ (z : Word). b ∷ z) (behind b)) ≡ underLetter b
+      one b =
+          map-map number (λ (z : Word). b ∷ z) (behind b)
+          ∙ map-agree (λ z. number (b ∷ z)) (λ z. (4 * begun + b) * 4 ^ n + val z) (behind b)
+          (λ z m. rw (rest-length (allowed ban s n b) (accepts (allowed ban) (leads moves) met (leads moves s b)) n m) (begun-more begun b n (val z)))
+
+  -- there are as many under a letter as ways
+  letter-count : (b : ℕ) → length (underLetter b) ≡ waysUnder moves ban s n b
+  letter-count b =
+      length-map (rest (allowed ban) (leads moves) met s n b) (λ z. (4 * begun + b) * 4 ^ n + val z)
+      ∙ rest-count (allowed ban) (leads moves) met s n b (ways-count (allowed ban) (leads moves) met (leads moves s b) n)
+
+  -- under a letter with a way they are those under the beginning that is longer by the letter
+  letter-under : (b p : ℕ) → p < waysUnder moves ban s n b
+      → (underLetter b ≡ under moves ban n (leads moves s b) (4 * begun + b)) × (p < waysFrom moves ban (leads moves s b) n)
+  letter-under b p h =
+      open-way (allowed ban s n b) (λ z. (4 * begun + b) * 4 ^ n + val z) (completing moves ban (leads moves s b) n) (waysFrom moves ban (leads moves s b) n) p h
+
+  -- where every word completes the state, they are numbers in a row
+  under-free : waysFrom moves ban s n ≡ 4 ^ n → under moves ban n s begun ≡ tabulate (λ i. begun * 4 ^ n + i) (4 ^ n)
+  under-free e =
+      ap (map (λ z. begun * 4 ^ n + val z)) (filter-full (accepts (allowed ban) (leads moves) met s) (words n) (sym (ways-count (allowed ban) (leads moves) met s n) ∙ e ∙ sym (length-words n)))
+      ∙ sym (map-map (λ i. begun * 4 ^ n + i) val (words n))
+      ∙ ap (map (λ i. begun * 4 ^ n + i)) (words-numbers n)
+      ∙ map-tabulate (λ i. begun * 4 ^ n + i) (λ i. i) (4 ^ n)
+
+  -- where a single word completes the state, there is one
+  under-one : {v : ℕ} → map val (completing moves ban s n) ≡ v ∷ [] → under moves ban n s begun ≡ (begun * 4 ^ n + v) ∷ []
+  under-one e = sym (map-map (λ i. begun * 4 ^ n + i) val (completing moves ban s n)) ∙ ap (map (λ i. begun * 4 ^ n + i)) e
+
+-- ---- what the letters before one give
+
+module _ (moves ban : List ℕ) (left s begun : ℕ) where
+  -- the numbers of the k-mers under a beginning whose next letter lies before a letter
+  abbrev pub before : ℕ → List ℕ
+  before b = joined (underLetter moves ban (left - 1) s begun) (take b letters)
+
+  -- one letter more
+  before-more : {b : ℕ} → b < 4 → before (suc b) ≡ before b ++ underLetter moves ban (left - 1) s begun b
+  before-more {b} h =
+      ap (joined F) (take-suc letters b 0 h ∙ ap (λ (i : ℕ). take b letters ++ (i ∷ [])) (letters-at h))
+      ∙ joined-append F (take b letters) (b ∷ [])
+      ∙ ap (λ (l : List ℕ). before b ++ l) (append-nil (F b))
+    where
+      F : ℕ → List ℕ
+      F = underLetter moves ban (left - 1) s begun
+
+  -- all letters
+  before-all : {b : ℕ} → 0 < left → b ≡ 4 → before b ≡ under moves ban left s begun
+  before-all {b} h e =
+      let more : suc (left - 1) ≡ left = omega arith in
+      ap before e ∙ sym (under-letters moves ban (left - 1) s begun) ∙ ap (λ (i : ℕ). under moves ban i s begun) more
+
+-- the k-mers under a beginning are listed up to a letter: so many of the start are still to be passed over, so many are written
+pub record Going (moves ban : List ℕ) (left s begun skip : ℕ) (old room : List ℕ) (passed written letter : ℕ) : Type 0 where
+  pub few : letter ≤ 4
+  pub passes : passed ≡ skip - length (before moves ban left s begun letter)
+  pub lists : Listed (before moves ban left s begun letter) skip old room written
+
+-- no letter was looked at yet
+pub going-first : (moves ban : List ℕ) (left s begun skip : ℕ) (room : List ℕ) → Going moves ban left s begun skip room room skip 0 0
+going-first moves ban left s begun skip room = record { few = omega arith; passes = sym (sub-zero skip); lists = listed-none skip room }
+
+module _ {moves ban : List ℕ} {left s begun skip : ℕ} {old room : List ℕ} {passed written letter : ℕ}
+    (g : Going moves ban left s begun skip old room passed written letter) where
+  -- what is written fits into the room
+  pub going-fits : written ≤ length old
+  going-fits = listed-fits (g .lists)
+
+  -- the room stays as long
+  pub going-long : length room ≡ length old
+  going-long =
+      let new : List ℕ = take (length old) (drop skip (before moves ban left s begun letter)) in
+      ap length (g .lists .fills) ∙ length-over new old (omega (arith, length-take (length old) (drop skip (before moves ban left s begun letter))))
+
+  -- what is written behind it fits too
+  pub going-room : {after : List ℕ} {n : ℕ}
+      → Listed (under moves ban (left - 1) (leads moves s letter) (4 * begun + letter)) passed (take (length room - written) (drop written room)) after n
+      → written + n ≤ length old
+  going-room l = omega (arith, going-fits, going-long, listed-fits l, length-take (length room - written) (drop written room))
+
+  -- the room behind what is written, with nothing behind it
+  behind-all : (take (length room - written) (drop written room) ≡ drop written room) × (drop (length room - written) (drop written room) ≡ [])
+  behind-all =
+      let long : length (drop written room) ≤ length room - written = omega (arith, length-drop written room) in
+      (take-all (length room - written) (drop written room) long, drop-of-length-le (drop written room) long)
+
+  module _ {ways : ℕ} (few : letter < 4) (known : ways ≡ waysUnder moves ban s (left - 1) letter) where
+    -- those under a letter
+    abbrev here : List ℕ
+    here = underLetter moves ban (left - 1) s begun letter
+
+    -- so many more are looked at
+    length-more : length (before moves ban left s begun (letter + 1)) ≡ length (before moves ban left s begun letter) + ways
+    length-more =
+        ap (λ (i : ℕ). length (before moves ban left s begun i)) (add-one letter)
+        ∙ ap length (before-more moves ban left s begun few)
+        ∙ length-append (before moves ban left s begun letter) here
+        ∙ ap (λ (i : ℕ). length (before moves ban left s begun letter) + i) (letter-count moves ban (left - 1) s begun letter ∙ sym known)
+
+    -- the k-mers under a letter are listed behind what is written
+    pub going-into : {after room′ : List ℕ} {n passed′ written′ : ℕ} → passed < ways
+        → Listed (under moves ban (left - 1) (leads moves s letter) (4 * begun + letter)) passed (take (length room - written) (drop written room)) after n
+        → room′ ≡ take written room ++ (after ++ drop (length room - written) (drop written room)) → passed′ ≡ 0 → written′ ≡ written + n
+        → Going moves ban left s begun skip old room′ passed′ written′ (letter + 1)
+    going-into {after} {room′} {n} h l e p q =
+        let under-here = letter-under moves ban (left - 1) s begun letter passed (omega arith) .0 in
+        let lists-here : Listed here (skip - length (before moves ban left s begun letter)) (drop written room) after n =
+        rw (under-here, ← g .passes, ← behind-all .0) l in
+        let room-is : room′ ≡ take written room ++ after = e ∙ rw (behind-all .1, append-nil) in
+        record {
+          few = omega arith;
+          passes = omega (arith, g .passes, length-more);
+          lists = rw (add-one, before-more moves ban left s begun few, room-is, q) (listed-more here (g .lists) lists-here);
+        }
+
+    -- the k-mers under a letter are passed over
+    pub going-past : {room′ : List ℕ} {passed′ written′ : ℕ} → ways ≤ passed → room′ ≡ room → passed′ ≡ passed - ways → written′ ≡ written
+        → Going moves ban left s begun skip old room′ passed′ written′ (letter + 1)
+    going-past h e p q =
+        let enough : length here ≤ skip - length (before moves ban left s begun letter) =
+        omega (arith, g .passes, letter-count moves ban (left - 1) s begun letter) in
+        record {
+          few = omega arith;
+          passes = omega (arith, g .passes, length-more);
+          lists = rw (add-one, before-more moves ban left s begun few, e, q) (listed-past here (g .lists) enough);
+        }
+
+  -- all letters were looked at
+  pub going-all : 0 < left → 4 ≤ letter → Listed (under moves ban left s begun) skip old room written
+  going-all h k = rw (← before-all moves ban left s begun {b = letter} h (omega (arith, g .few))) (g .lists)
+
+-- ---- descending
+
+-- the numbers under a beginning stay below 4^31
+begun-fits : (left begun : ℕ) → left ≤ 31 → begun < 4 ^ (31 - left) → begun * 4 ^ left + 4 ^ left ≤ 4 ^ 31
+begun-fits left begun h k =
+    let up : suc begun * 4 ^ left ≤ 4 ^ (31 - left) * 4 ^ left = mul-le-mul-right (4 ^ left) k in
+    let sum : 31 - left + left ≡ 31 = omega arith in
+    let all : 4 ^ (31 - left) * 4 ^ left ≡ 4 ^ 31 = sym (pow-add 4 (31 - left) left) ∙ ap (λ (i : ℕ). 4 ^ i) sum in
+    omega (arith, suc-mul begun (4 ^ left))
+
+-- one letter more is begun
+begun-small : (left begun b : ℕ) → 0 < left → left ≤ 31 → begun < 4 ^ (31 - left) → b < 4 → 4 * begun + b < 4 ^ (31 - (left - 1))
+begun-small left begun b o h k l =
+    let up : 4 ^ (31 - (left - 1)) ≡ 4 * 4 ^ (31 - left) = ap (λ (i : ℕ). 4 ^ i) (omega arith) ∙ pow-succ' 4 (31 - left) in
+    omega arith
+
+-- where some way is left, and not all, some letter is left
+some-left : (moves ban : List ℕ) (s left skip : ℕ) → skip < waysFrom moves ban s left → (waysFrom moves ban s left ≡ 4 ^ left → ⊥) → 0 < left
+some-left moves ban s zero skip h n = absurd (n (omega (arith, ways-le (allowed ban) (leads moves) met s 0)))
+some-left moves ban s (suc left) skip h n = zero-lt-suc left
+
+module _ {m word left state begun skip : ℕ} {moves ban ways powers : List ℕ} (d : Descending m word left state begun skip moves ban ways powers) where
+  -- the power that is read
+  pub power-is : getD powers left 0 ≡ 4 ^ left
+  power-is = d .powersAre .each left (omega (arith, d .few))
+
+  -- it is not 0
+  pub power-some : 0 < getD powers left 0
+  power-some = rw power-is (one-le-pow left 4 four-pos)
+
+  -- the number with which the k-mers under the beginning start
+  pub first-is : begun * getD powers left 0 ≡ begun * 4 ^ left
+  first-is = ap (λ (p : ℕ). begun * p) power-is
+
+  -- the ways that are read
+  pub count-is : getD ways (64 * left + state) 0 ≡ waysFrom moves ban state left
+  count-is = d .known .right left state (omega arith) (d .live)
+
+  -- the state is below 64
+  pub state-lt : state < 64
+  state-lt = live-lt (d .tables .few) (d .live)
+
+  -- the numbers under the beginning stay below 4^31
+  pub numbers-fit : begun * 4 ^ left + 4 ^ left ≤ 4 ^ 31
+  numbers-fit = begun-fits left begun (d .few) (d .small)
+
+  -- the number of what is begun is below 4^31
+  pub begun-lt : begun < 4 ^ 31
+  begun-lt = omega (arith, numbers-fit, one-le-pow left 4 four-pos, mul-le-mul-left begun (one-le-pow left 4 four-pos))
+
+  -- the number that the rest of the word completes is too
+  pub rest-lt : begun * getD powers left 0 + word % getD powers left 0 < 4 ^ 31
+  rest-lt = rw power-is (omega (arith, numbers-fit, mod-lt word {m = 4 ^ left} (one-le-pow left 4 four-pos)))
+
+  -- where not every word completes the beginning, some letter is left
+  pub letter-left : {count power : ℕ} → count ≡ waysFrom moves ban state left → power ≡ 4 ^ left → (count ≡ power → ⊥) → 0 < left
+  letter-left e q n = some-left moves ban state left skip (d .behind) (λ r. n (e ∙ r ∙ sym q))
+
+  -- where every word completes it, its numbers in a row are listed
+  pub listed-free : {old room : List ℕ} {written first count : ℕ} → first ≡ begun * 4 ^ left → count ≡ 4 ^ left → count ≡ waysFrom moves ban state left
+      → Listed (tabulate (λ i. (first + skip) + i) (count - skip)) 0 old room written → Listed (under moves ban left state begun) skip old room written
+  listed-free {old} {room} {written} {first} {count} e q r l =
+      let same : drop skip (under moves ban left state begun) ≡ tabulate (λ i. (first + skip) + i) (count - skip) =
+      ap (drop skip) (under-free moves ban left state begun (sym r ∙ q))
+      ∙ drop-tabulate (λ i. begun * 4 ^ left + i) (4 ^ left) skip
+      ∙ rw (q, e) (tabulate-agree (4 ^ left - skip) (λ i h. sym (add-assoc (begun * 4 ^ left) skip i))) in
+      record { count = rw same (l .count); fills = rw same (l .fills) }
+
+  -- where just the rest of the word is left, its one number is listed
+  pub listed-rest : {room : List ℕ} {power : ℕ} → power ≡ 4 ^ left → state + left ≡ m → 0 < length room
+      → Listed (under moves ban left state begun) skip room (set room 0 (begun * power + word % power)) 1
+  listed-rest {room} {power} p e h =
+      let some : 0 < left = ⊎-elim (λ l. omega arith) (λ l. omega (arith, d .tables .few)) (d .live) in
+      let one = d .rest state left e some (omega (arith, d .behind)) in
+      let none : skip ≡ 0 =
+      omega (arith, d .behind, ways-count (allowed ban) (leads moves) met state left, length-map (completing moves ban state left) val, ap length one) in
+      rw (p, none, under-one moves ban left state begun one) (listed-one (begun * 4 ^ left + word % 4 ^ left) room h)
+
+  -- what reading the ways under a letter asks
+  pub ready : 0 < left → Ready left state moves ban ways
+  ready h =
+      record {
+        m = m;
+        tables = d .tables;
+        known = record { long = d .known .long; right = λ r s l k. d .known .right r s (omega arith) k };
+        live = d .live;
+        some = h;
+        few = d .few;
+      }
+
+  -- where a letter leads is below 64
+  pub leads-lt : {b : ℕ} → b < 4 → leads moves state b < 64
+  leads-lt {b} h = live-lt (d .tables .few) (d .tables .lead state b (d .live) h)
+
+  -- one letter further down
+  pub descend : {b passed count : ℕ} → 0 < left → b < 4 → count ≡ waysUnder moves ban state (left - 1) b → passed < count
+      → Descending m word (left - 1) (leads moves state b) (4 * begun + b) passed moves ban ways powers
+  descend {b} {passed} o h e k =
+      record {
+        tables = d .tables;
+        known = record { long = d .known .long; right = λ r s l j. d .known .right r s (omega arith) j };
+        powersAre = d .powersAre;
+        live = d .tables .lead state b (d .live) h;
+        few = omega (arith, d .few);
+        small = begun-small left begun b o (d .few) (d .small) h;
+        behind = letter-under moves ban (left - 1) state begun b passed (omega arith) .1;
+        rest = d .rest;
+      }
