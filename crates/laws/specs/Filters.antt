@@ -1,14 +1,14 @@
 -- Filters: what is chosen from a list, from joined lists, and from all words of n + 1 letters.
 -- Assumes nothing.
-use Prim.Native.Nat.{ℕ, zero, suc, _+_, _*_, _≤_, _<_, suc-le-suc}
-use native.Mathlib.Nat.{le-refl, le-of-suc-le-suc, not-suc-le-zero, zero-lt-suc, mul-zero, mul-suc}
+use Prim.Native.Nat.{ℕ, zero, suc, _+_, _*_, _≤_, _<_, min, suc-le-suc}
+use native.Mathlib.Nat.{le-refl, le-of-suc-le-suc, not-suc-le-zero, zero-lt-suc, mul-zero, mul-suc, min-zero, suc-min-suc}
 use native.Mathlib.Omega.{arith}
 use mathlib.Core.Bool.{Bool, true, false, cond, _&&_, _||_}
 use mathlib.Core.List.{List, [], _∷_, _++_, map, List·Memᴰ, List·Memᴰ·head, List·Memᴰ·tail, List·Memᴰ·cases-cons, List·Memᴰ·not-nil}
 use mathlib.Core.Logic.{_⊎_, inl, inr, ⊎-elim}
 use mathlib.Core.Path.{_≡_, refl, sym, ap, ap₂, _∙_}
 use lib.ListN.{length, getD, take, drop, length-append, length-map}
-use lib.Seq.{drop-drop, take-at, drop-at}
+use lib.Seq.{drop-drop, take-nil, take-at, drop-at}
 use Rattle.definitions.specs.Lists.{put, filter, all, tabulate, total}
 use Rattle.definitions.specs.Words.{Word, letters, spread, words}
 use Rattle.laws.specs.Tests.{and-l, and-r, and-i, or-l, or-r, or-cases, contrary}
@@ -147,6 +147,12 @@ module _ {A : Type 0} where
   at-map f [] d e i h = absurd (not-suc-le-zero h)
   at-map f (a ∷ l) d e zero h = refl
   at-map f (a ∷ l) d e (suc i) h = at-map f l d e i (le-of-suc-le-suc h)
+
+-- no more is taken than there is
+pub take-least : {A : Type 0} (l : List A) (k : ℕ) → take (min (length l) k) l ≡ take k l
+take-least [] k = take-nil (min 0 k) ∙ sym (take-nil k)
+take-least (x ∷ l) zero = rw min-zero
+take-least {A} (x ∷ l) (suc k) = rw suc-min-suc (ap (λ (r : List A). x ∷ r) (take-least l k))
 
 module _ {A B : Type 0} (f : A → B) where
   -- the first of what a function gives

@@ -1,0 +1,128 @@
+-- `listers::list` meets its contract: refused, it gives the answer under the number of refusal; else the pages that were taken are the shelf.
+-- Assumes nothing.
+use Prim.Native.Nat.{ℕ, zero, suc, min}
+use mathlib.Core.Bool.{Bool, true, false, cond, _||_}
+use mathlib.Core.List.{List, [], _∷_}
+use mathlib.Core.Path.{_≡_, refl, sym, ap, ap₂, _∙_}
+use native.Mathlib.Omega.{arith}
+use borrow.Author.Needs.{needs}
+use borrow.Author.Tests.{ltb-false, ne-eqb}
+use lib.Dec.{ltb, eqb}
+use lib.ListN.{length}
+use Rattle.definitions.specs.Words.{Word, word as wordOf}
+use Rattle.definitions.specs.Vigemins.{Form, keyed}
+use Rattle.definitions.specs.Shelves.{size as sizeOf}
+use Rattle.definitions.specs.Refusals.{refusal}
+use Rattle.definitions.specs.Outcomes.{Counted, shelfGrounds, sizeAnswer, sizeOutcome}
+use Rattle.laws.specs.Tests.{contrary}
+use Rattle.laws.specs.Refusals.{refusal-append}
+use Rattle.laws.specs.Accepted.{word-accepted, sizeAnswer-refusal}
+use Rattle.listers.specs.Answers.{badPages, listGrounds, listAnswer, listOutcome}
+use Rattle.listers.proofs.list.Statement.{statement}
+use Rattle.listers.proofs.list.Tie as tie
+
+-- beside a refusal nothing is written
+refused : (r : ℕ) → (r ≡ 0 → ⊥) → (f : Form) (k : ℕ) (w : Word) (room : List ℕ) → record { refusal = r; written = 0; room = room } ≡ listAnswer r f k w room
+unfolding listAnswer
+refused zero h f k w room = absurd (h refl)
+refused (suc r) h f k w room = refl
+
+-- the refusal is that of the shelf or, where it is 0, 7 or none
+refusing : (k m key w each : ℕ) (room : List ℕ) {r : ℕ} → r ≡ refusal (shelfGrounds k m key w)
+    → refusal (listGrounds k m key w each room) ≡ cond (eqb r 0) (refusal (badPages (sizeOf (keyed (wordOf m key)) k (wordOf m w)) each (length room) ∷ [])) r
+refusing k m key w each room e =
+    refusal-append (shelfGrounds k m key w) (badPages (sizeOf (keyed (wordOf m key)) k (wordOf m w)) each (length room) ∷ []) (omega arith) (sym e)
+
+-- the size that is answered where nothing is refused
+size-count : (k m key w : ℕ) → refusal (shelfGrounds k m key w) ≡ 0 → sizeOutcome k m key w .count ≡ sizeOf (keyed (wordOf m key)) k (wordOf m w)
+unfolding sizeOutcome sizeAnswer
+size-count k m key w z = ap (λ (r : ℕ). sizeAnswer r (keyed (wordOf m key)) k (wordOf m w) .count) z
+
+size-requires : tie.Need-size-requires
+size-requires c κs = search needs
+
+-- the refusal of the size is that of the shelf
+given : (c : tie.After-size) → let args = c .before .before .args in c .size .result .refusal ≡ refusal (shelfGrounds (args .k) (args .m) (args .key) (args .word))
+unfolding sizeOutcome
+given c = ap (λ (o : Counted). o .refusal) (c .size .ensures) ∙ sizeAnswer-refusal _ _ _ _
+
+returns : tie.Need-returns
+unfolding listOutcome
+returns c =
+    let args = c .before .before .before .before .args in
+    let r = c .before .before .size .result .refusal in
+    let some : (r ≡ 0) → ⊥ = λ e. omega arith in
+    let is : refusal (listGrounds (args .k) (args .m) (args .key) (args .word) (args .each) (args .room .now)) ≡ r =
+    refusing (args .k) (args .m) (args .key) (args .word) (args .each) (args .room .now) (given (c .before .before)) ∙ rw (ne-eqb r 0 some) in
+    refused r some (keyed (wordOf (args .m) (args .key))) (args .k) (wordOf (args .m) (args .word)) (args .room .now)
+    ∙ ap (λ (n : ℕ). listAnswer n (keyed (wordOf (args .m) (args .key))) (args .k) (wordOf (args .m) (args .word)) (args .room .now)) (sym is)
+
+lesser-requires : tie.Need-lesser-requires
+lesser-requires c κs = search needs
+
+-- where the refusal is 0, nothing is refused but the rooms
+none : (c : tie.Else1) → let args = c .before .before .before .before .args in refusal (shelfGrounds (args .k) (args .m) (args .key) (args .word)) ≡ 0
+none c = sym (given (c .before .before)) ∙ c .if1 .left
+
+-- and the count is the size
+counted : (c : tie.Else1) → let args = c .before .before .before .before .args in c .before .before .size .result .count ≡ sizeOf (keyed (wordOf (args .m) (args .key))) (args .k) (wordOf (args .m) (args .word))
+counted c =
+    let args = c .before .before .before .before .args in
+    ap (λ (o : Counted). o .count) (c .before .before .size .ensures) ∙ size-count (args .k) (args .m) (args .key) (args .word) (none c)
+
+-- whether the rooms are refused, as it was tested
+tested : (k m key w each : ℕ) (room : List ℕ) {count least : ℕ} {t : Bool} → refusal (shelfGrounds k m key w) ≡ 0 → count ≡ sizeOf (keyed (wordOf m key)) k (wordOf m w)
+    → least ≡ min 1 count → (ltb (length room) count || ltb each least) ≡ t → refusal (listGrounds k m key w each room) ≡ cond t 7 0
+tested k m key w each room z e l q =
+    refusing k m key w each room (sym z) ∙ ap (λ (t : Bool). cond t 7 0) (sym (ap₂ (λ (x y : ℕ). ltb (length room) x || ltb each y) e (l ∙ ap (min 1) e)) ∙ q)
+
+-- neither of two tests holds
+neither : (x y : Bool) → (x || y) ≡ false → (x ≡ false) × (y ≡ false)
+neither false y e = (refl, e)
+neither true y e = absurd (contrary true refl e)
+
+returns-2 : tie.Need-returns-2
+unfolding listOutcome
+returns-2 c =
+    let first = c .before .before in
+    let args = first .before .before .before .before .args in
+    let is = tested (args .k) (args .m) (args .key) (args .word) (args .each) (args .room .now) (none first) (counted first) (c .before .lesser .ensures) (c .if2 .taken) in
+    refused 7 (λ e. omega arith) (keyed (wordOf (args .m) (args .key))) (args .k) (wordOf (args .m) (args .word)) (args .room .now)
+    ∙ ap (λ (n : ℕ). listAnswer n (keyed (wordOf (args .m) (args .key))) (args .k) (wordOf (args .m) (args .word)) (args .room .now)) (sym is)
+
+list-pages-requires : tie.Need-list-pages-requires
+list-pages-requires c κs =
+    let first = c .before .before .before in
+    let args = first .before .before .before .before .args in
+    let fits = neither _ _ (c .before .if2 .left) in
+    record {
+      accepted = word-accepted (args .m) (args .k) (args .m) (args .key) (args .word) (none first);
+      sized = counted first;
+      takes = ltb-false _ _ (fits .0);
+      some = rw (← c .before .before .lesser .ensures) (ltb-false _ _ (fits .1));
+    }
+
+same-length : tie.Need-same-length
+same-length c = search needs
+
+returns-3 : tie.Need-returns-3
+unfolding listOutcome listAnswer
+returns-3 c =
+    let first = c .before .before .before .before .before .before in
+    let args = first .before .before .before .before .args in
+    let is = tested (args .k) (args .m) (args .key) (args .word) (args .each) (args .room .now) (none first) (counted first) (c .before .before .before .before .before .lesser .ensures) (c .before .before .before .before .if2 .left) in
+    let pages = c .before .before .list-pages .ensures in
+    ap₂ (λ (n : ℕ) (l : List ℕ). record { refusal = 0; written = n; room = l }) (pages .0 ∙ counted first) (pages .1)
+    ∙ ap (λ (n : ℕ). listAnswer n (keyed (wordOf (args .m) (args .key))) (args .k) (wordOf (args .m) (args .word)) (args .room .now)) (sym is)
+
+pub list-spec : {M : Type 1} → statement M
+list-spec =
+    tie.close
+    (tie.spec
+    size-requires
+    returns
+    lesser-requires
+    returns-2
+    list-pages-requires
+    same-length
+    returns-3)
