@@ -22,7 +22,7 @@ fn coded(refusal: u64, place: u64, answer: u64) -> u64
 pub extern "C" fn tukinraso_scan(k: u64, m: u64, key: u64, seq: &[u8], room: &mut [u8]) -> u64
     ensures { λ r. ⌜ foreignScanned r (now (room .exit)) ≡ outcomes.foreignScanOutcome k m key (now (seq .entry)) (now (room .entry)) ⌝ }
 {
-    let scanned = vigemins::scan_bytes(k, m, key, seq, room);
+    let scanned = scans::scan_bytes(k, m, key, seq, room);
     coded(scanned.refusal, scanned.place, scanned.windows)
 }
 

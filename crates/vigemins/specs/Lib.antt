@@ -1,6 +1,4 @@
 -- What the contracts of `vigemins` speak of, beside `definitions` and `laws`.
 --
--- Answers       what the vigemin and the scans answered, as outcomes
--- Readings      what the scans' private functions ask and give: settings, words that roll, stamps, the ring of a block, a window that was read
+-- Answers       what the vigemin answered, as an outcome
 pub mod Answers
-pub mod Readings

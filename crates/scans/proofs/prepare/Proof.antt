@@ -1,0 +1,91 @@
+-- `scans::prepare` meets its contract: the side is 4^(32 - m), which is above the places of two blocks, and 4^m times the side is 2^64.
+-- Assumes nothing.
+use Prim.Native.Nat.{ℕ, suc, _+_, _-_, _*_, _^_, _≤_, _<_}
+use mathlib.Core.Path.{_≡_, refl, _∙_}
+use native.Mathlib.Nat.{pow-suc, pow-le-pow-right, one-le-pow}
+use native.Mathlib.Omega.{arith}
+use borrow.Author.Needs.{needs}
+use lib.Bits.{and-mask}
+use lib.Pow.{pow-add}
+use Rattle.laws.specs.Accepted.{OrderAccepted}
+use Rattle.laws.specs.Numbers.{four-pos, four-pow, xor-scale, twice-le-four}
+use Rattle.laws.specs.Stamps.{stamp-room}
+use Rattle.words.specs.Powers.{powerOutcome, power-four}
+use Rattle.scans.specs.Readings.{top, SetTo}
+use Rattle.scans.proofs.prepare.Statement.{statement}
+use Rattle.scans.proofs.prepare.Tie as tie
+
+module _ {k m key power : ℕ} (a : OrderAccepted k m key) (e : power ≡ powerOutcome (31 - m)) where
+  -- the side is a power of four
+  side-is : power * 4 ≡ 4 ^ suc (31 - m)
+  side-is = rw (e ∙ power-four (31 - m) (omega arith), pow-suc)
+
+  -- as many letters as fill 64 bits
+  side-fills : 4 ^ m * (power * 4) ≡ suc top
+  side-fills =
+      let all : m + suc (31 - m) ≡ 32 = omega (arith, a .mFits, a .kFew) in
+      rw (side-is, ← pow-add 4 m (suc (31 - m)), all)
+
+  -- of 62 bits at most
+  side-few : power * 4 ≤ 4 ^ 31
+  side-few = rw side-is (pow-le-pow-right four-pos {j = 31} (omega (arith, a .mSome)))
+
+  -- it is not 0
+  side-some : 0 < power * 4
+  side-some = rw side-is (one-le-pow (suc (31 - m)) 4 four-pos)
+
+  -- the key times the side fits
+  key-high : key * (power * 4) + power * 4 ≤ suc top
+  key-high = stamp-room top (power * 4) (4 ^ m) (omega (arith, side-fills)) key (a .keySmall)
+
+  -- the settings
+  set-to : SetTo k m key (record { k = k; m = m; key = key; width = k - m + 1; side = power * 4; high = key * (power * 4) })
+  set-to =
+      let bits : power * 4 ≡ 2 ^ (2 * suc (31 - m)) = side-is ∙ four-pow (suc (31 - m)) in
+      record {
+        prepared =
+            record {
+              mSome = a .mSome;
+              wide = omega arith;
+              kIs = omega (arith, a .mFits);
+              kFew = a .kFew;
+              keySmall = a .keySmall;
+              stampsFit = side-fills;
+              placesFit = rw side-is (omega (arith, twice-le-four (suc (31 - m)), a .kFew, a .mFits));
+              sideFew = side-few;
+              placesAre = λ n. rw bits (and-mask n (2 * suc (31 - m)));
+              keyHigh = λ v. rw bits (xor-scale (2 * suc (31 - m)) v key);
+            };
+        kIs = refl;
+        mIs = refl;
+        keyIs = refl;
+      }
+
+sub-width : tie.Need-sub-width
+sub-width c = search needs
+
+add-width : tie.Need-add-width
+add-width c = search needs
+
+sub-rest : tie.Need-sub-rest
+sub-rest c = search needs
+
+power-requires : tie.Need-power-requires
+power-requires c κs = search needs
+
+mul-side : tie.Need-mul-side
+mul-side c =
+    let start = c .before in
+    omega (arith, side-few (start .pre) (c .power .ensures))
+
+mul-high : tie.Need-mul-high
+mul-high c =
+    let start = c .before in
+    omega (arith, key-high (start .pre) (c .power .ensures), side-some (start .pre) (c .power .ensures))
+
+returns : tie.Need-returns
+returns c = set-to (c .before .pre) (c .power .ensures)
+
+pub prepare-spec : {M : Type 1} → statement M
+prepare-spec =
+    tie.close (tie.spec sub-width add-width sub-rest power-requires mul-side mul-high returns)

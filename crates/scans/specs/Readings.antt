@@ -1,0 +1,136 @@
+-- What a scan has read: the ring of stamps, and the least of each window by the suffixes of one block and the running least of the next.
+-- Assumes nothing.
+use Prim.Native.Nat.{ℕ, suc, _+_, _-_, _*_, _%_, _^_, _≤_, _<_}
+use mathlib.Core.Bool.{true}
+use mathlib.Core.List.{List}
+use mathlib.Core.Path.{_≡_}
+use lib.Bits.{bitAnd, bitXor}
+use lib.ListN.{length, getD, take, drop}
+use Rattle.definitions.specs.Lists.{all}
+use Rattle.definitions.specs.Words.{isLetter, spelled, word as wordOf}
+use Rattle.definitions.specs.Vigemins.{keyed, scan}
+use Rattle.laws.specs.Rolls.{rolled, values}
+use Rattle.laws.specs.Stamps.{lowest, leastFrom}
+use Rattle.words.specs.Letters.{codeOf}
+use Rattle.scans.specs.declared.Settings.{Settings}
+use Rattle.scans.specs.declared.Mer.{Mer}
+use Rattle.scans.specs.declared.Reading.{Reading}
+
+-- the largest number of 64 bits
+abbrev pub top : ℕ
+top = 18446744073709551615
+
+-- a ring of 32 entries, of which the first ones, below the top, are read
+pub record Entries (width : ℕ) (ring : List ℕ) : Type 0 where
+  pub some : 0 < width
+  pub few : width ≤ 31
+  pub full : length ring ≡ 32
+  pub below : (q : ℕ) → q < width → getD ring q 0 ≤ top
+
+-- the first entries of a ring as the least of those from their place on, and the others as they were
+pub record Suffixes (width : ℕ) (old new : List ℕ) : Type 0 where
+  pub full : length new ≡ 32
+  pub least : (q : ℕ) → q < width → getD new q 0 ≡ lowest top (take (width - q) (drop q old))
+  pub others : (q : ℕ) → width ≤ q → getD new q 0 ≡ getD old q 0
+
+-- settings that serve a scan
+pub record Prepared (s : Settings) : Type 0 where
+  pub mSome : 0 < s .m
+  pub wide : 0 < s .width
+  pub kIs : s .width + s .m ≡ suc (s .k)
+  pub kFew : s .k ≤ 31
+  pub keySmall : s .key < 4 ^ s .m
+  pub stampsFit : 4 ^ s .m * s .side ≡ suc top
+  pub placesFit : s .width + s .width ≤ s .side
+  pub sideFew : s .side ≤ 4 ^ 31
+  pub placesAre : (n : ℕ) → bitAnd n (s .side - 1) ≡ n % s .side
+  pub keyHigh : (v : ℕ) → bitXor (v * s .side) (s .high) ≡ bitXor v (s .key) * s .side
+
+-- the settings of a scan by some k, m and key
+pub record SetTo (k m key : ℕ) (s : Settings) : Type 0 where
+  pub prepared : Prepared s
+  pub kIs : s .k ≡ k
+  pub mIs : s .m ≡ m
+  pub keyIs : s .key ≡ key
+
+-- a word of m letters, kept times the side
+pub record Rollable (s : Settings) (word : ℕ) : Type 0 where
+  pub prepared : Prepared s
+  pub letters : ℕ
+  pub small : letters < 4 ^ s .m
+  pub high : word ≡ letters * s .side
+
+-- the word of some m letters after one goes out and a byte's comes in
+abbrev pub rollOn : Settings → ℕ → ℕ → ℕ
+rollOn s v byte = (v * 4 + codeOf byte) % 4 ^ s .m
+
+-- a word rolled on by a byte, whatever its letters
+abbrev pub Rolled : Settings → ℕ → ℕ → ℕ → Type 0
+Rolled s word byte r = (v : ℕ) → word ≡ v * s .side → r ≡ rollOn s v byte * s .side
+
+-- the word rolled on by a byte, and its stamp at a place
+pub record Stamped (s : Settings) (word byte place : ℕ) (r : Mer) : Type 0 where
+  pub rolls : Rolled s word byte (r .word)
+  pub stamps : (v : ℕ) → word ≡ v * s .side → r .stamp ≡ bitXor (rollOn s v byte) (s .key) * s .side + place
+  pub low : r .stamp + s .side ≤ suc top + place
+
+-- a sequence that a scan reads: k to 65,536 letters
+pub record Readable (s : Settings) (seq : List ℕ) : Type 0 where
+  pub prepared : Prepared s
+  pub allLetters : all isLetter seq ≡ true
+  pub short : length seq ≤ 65536
+  pub long : s .k ≤ length seq
+
+-- the scan of a sequence by some settings
+abbrev pub positionsOf : Settings → List ℕ → List ℕ
+positionsOf s seq = scan (keyed (wordOf (s .m) (s .key))) (s .k) (s .m) (spelled seq)
+
+-- a ring with the stamps of the first n of the values from a place on, and the top at its end
+pub record Filled (side width : ℕ) (vs : List ℕ) (block n : ℕ) (ring : List ℕ) : Type 0 where
+  pub full : length ring ≡ 32
+  pub stamps : (q : ℕ) → q < n → getD ring q 0 ≡ getD vs (block + q) 0 * side + q
+  pub end : getD ring width 0 ≡ top
+
+-- of the values after a block, so many were read: the running least of these; and in the ring their stamps, and behind them what is left of the
+-- least stamps from each place of the block on
+pub record Minima (side width : ℕ) (vs : List ℕ) (block at run : ℕ) (ring : List ℕ) : Type 0 where
+  pub full : length ring ≡ 32
+  pub within : at ≤ width
+  pub read : block + width + at ≤ length vs
+  pub runs : run ≡ leastFrom top side vs width (block + width) at
+  pub stamps : (q : ℕ) → q < at → getD ring q 0 ≡ getD vs (block + width + q) 0 * side + q
+  pub left : (q : ℕ) → at ≤ q → q ≤ width → getD ring q 0 ≡ leastFrom top side vs q (block + q) (width - q)
+
+-- a window was read, of which the first m-mer is so far behind the start of a block: the word is that of the letters read last, and the position
+-- that of the window's vigemin
+pub record Read (s : Settings) (seq : List ℕ) (r : Reading) (ring : List ℕ) : Type 0 where
+  pub minima : Minima (s .side) (s .width) (values (s .m) (s .key) (spelled seq)) (r .block) (r .at) (r .run) ring
+  pub word : r .word ≡ rolled (s .m) (spelled seq) (r .block + r .at + s .k) * s .side
+  pub position : r .position ≡ getD (positionsOf s seq) (r .block + r .at) 0
+
+-- a reading of some sequence
+pub record Turnable (s : Settings) (r : Reading) (ring : List ℕ) : Type 0 where
+  pub seq : List ℕ
+  pub readable : Readable s seq
+  pub read : Read s seq r ring
+
+-- the same window was read, whatever the sequence, and its block has m-mers left to be read after it
+pub record Turned (s : Settings) (r : Reading) (ring : List ℕ) (t : Reading) (new : List ℕ) : Type 0 where
+  pub read : (seq : List ℕ) → Readable s seq → Read s seq r ring → Read s seq t new
+  pub inside : t .at < s .width
+  pub same : t .block + t .at ≡ r .block + r .at
+
+-- a reading with m-mers left in its block, of a sequence with a letter left, which stands at a place
+pub record Steppable (s : Settings) (r : Reading) (seq : List ℕ) (place : ℕ) (ring : List ℕ) : Type 0 where
+  pub readable : Readable s seq
+  pub read : Read s seq r ring
+  pub inside : r .at < s .width
+  pub there : place ≡ r .block + r .at + s .k
+  pub more : place < length seq
+
+-- a sequence with some windows, and room for so many entries for each
+pub record Writable (s : Settings) (seq : List ℕ) (windows each : ℕ) (room : List ℕ) : Type 0 where
+  pub readable : Readable s seq
+  pub some : 0 < windows
+  pub all : windows + s .k ≡ suc (length seq)
+  pub fits : each * windows ≤ length room
