@@ -44,6 +44,10 @@ struct Place {
     met: bool,
 }
 
+impl Place {
+    const START: Place = Place { at: 0, tied: 0, met: false };
+}
+
 /// Counts the words asked for. What can follow depends on the place alone, so each place is counted once.
 struct Counter {
     /// By the number of letters that an m-mer has, and the letter that comes.
@@ -53,10 +57,13 @@ struct Counter {
 }
 
 impl Counter {
-    fn count(m: u64, key: u64, word: u64, asked: Asked) -> u64 {
+    fn new(m: u64, key: u64, word: u64, asked: Asked) -> Counter {
         let signs = letters(m, word).into_iter().zip(letters(m, key)).map(|(a, c)| signs(a, c)).collect();
-        let mut counter = Counter { signs, asked, known: HashMap::new() };
-        counter.from(Place { at: 0, tied: 0, met: false })
+        Counter { signs, asked, known: HashMap::new() }
+    }
+
+    fn count(m: u64, key: u64, word: u64, asked: Asked) -> u64 {
+        Counter::new(m, key, word, asked).from(Place::START)
     }
 
     /// The number of ways to go on from this place to the end.
@@ -113,8 +120,50 @@ fn signs(a: u8, c: u8) -> [Sign; 4] {
 
 /// The k-mers with no m-mer below w and with w among them: then w is the least, and the leftmost of equals is w too.
 pub fn size(k: u64, m: u64, key: u64, word: u64) -> u64 {
-    let asked = Asked { letters: vec![None; k as usize], starts: (k - m + 1) as usize, equals: Equals::Some };
-    Counter::count(m, key, word, asked)
+    Counter::count(m, key, word, shelf(k, m))
+}
+
+fn shelf(k: u64, m: u64) -> Asked {
+    Asked { letters: vec![None; k as usize], starts: (k - m + 1) as usize, equals: Equals::Some }
+}
+
+/// A shelf whose k-mers are found by counting those that begin alike.
+pub struct Shelf {
+    counter: Counter,
+}
+
+impl Shelf {
+    pub fn new(k: u64, m: u64, key: u64, word: u64) -> Shelf {
+        Shelf { counter: Counter::new(m, key, word, shelf(k, m)) }
+    }
+
+    pub fn size(&mut self) -> u64 {
+        self.counter.from(Place::START)
+    }
+
+    /// The k-mer at a place: each letter in turn is the one under whose count the place falls.
+    pub fn kmer(&mut self, mut place: u64) -> u64 {
+        let (mut kmer, mut read) = (0, Place::START);
+        while read.at < self.counter.asked.letters.len() {
+            let (letter, next) = self.letter(read, &mut place);
+            kmer = 4 * kmer + u64::from(letter);
+            read = next;
+        }
+        kmer
+    }
+
+    fn letter(&mut self, read: Place, place: &mut u64) -> (u8, Place) {
+        for letter in 0..4 {
+            if let Some(next) = self.counter.read(read, letter) {
+                let count = self.counter.from(next);
+                if *place < count {
+                    return (letter, next);
+                }
+                *place -= count;
+            }
+        }
+        panic!("no k-mer stands at this place");
+    }
 }
 
 /// Antemers: any letters and then w, where each m-mer but the last is above w. Postmers: w and then any letters.
@@ -139,9 +188,13 @@ fn keyed_mers(length: u64, m: u64, key: u64, word: u64) -> impl Iterator<Item = 
 }
 
 /// For small k: each k-mer is asked for its vigemin.
-pub fn brute_size(k: u64, m: u64, key: u64, word: u64) -> u64 {
+pub fn brute_shelf(k: u64, m: u64, key: u64, word: u64) -> Vec<u64> {
     let vigemin = |mer: &u64| keyed_mers(k, m, key, *mer).min().map(|least| least ^ key);
-    (0..4u64.pow(k as u32)).filter(|mer| vigemin(mer) == Some(word)).count() as u64
+    (0..4u64.pow(k as u32)).filter(|mer| vigemin(mer) == Some(word)).collect()
+}
+
+pub fn brute_size(k: u64, m: u64, key: u64, word: u64) -> u64 {
+    brute_shelf(k, m, key, word).len() as u64
 }
 
 /// For small k−m: each word is set before w, and after w.

@@ -1,11 +1,15 @@
-//! Checks the scans against the plain one and the sizes against independent counts, and measures them. `check` checks alone;
-//! otherwise it checks, then measures.
+//! Checks the scans against the plain one, the sizes and the pages against independent counts, and measures them. `check` checks alone,
+//! `pages` measures the pages alone; otherwise it checks, then measures all.
 
+#[cfg(has_trials)]
+mod antemers;
 mod counts;
 mod masks;
+mod pages;
 mod paper;
 mod rivals;
 mod sizes;
+mod walks;
 
 use std::hint::black_box;
 use std::process::exit;
@@ -71,13 +75,15 @@ fn main() {
     let mode = std::env::args().nth(1);
     match mode.as_deref() {
         Some("check") => check(),
+        Some("pages") => pages::measure(),
         None | Some("measure") => {
             check();
             measure();
             sizes::measure();
+            pages::measure();
         }
         Some(other) => {
-            eprintln!("unknown mode {other}: say check, measure or nothing");
+            eprintln!("unknown mode {other}: say check, pages, measure or nothing");
             exit(2);
         }
     }
@@ -215,6 +221,11 @@ fn check() {
     check_pointers(&mut checks);
     check_random(&mut checks);
     checks.passed += sizes::check();
+    checks.passed += pages::check();
+    #[cfg(has_trials)]
+    {
+        checks.passed += antemers::check();
+    }
     println!("{} checks passed", checks.passed);
 }
 
@@ -226,6 +237,9 @@ const REFUSED_4: u64 = 0x8000_0000_0004_0000;
 const REFUSED_5: u64 = 0x8000_0000_0005_0000;
 const REFUSED_6: u64 = 0x8000_0000_0006_0000;
 const REFUSED_7: u64 = 0x8000_0000_0007_0000;
+const REFUSED_8: u64 = 0x8000_0000_0008_0000;
+#[cfg(has_trials)]
+const REFUSED_9: u64 = 0x8000_0000_0009_0000;
 const HUGE: u64 = 0xFFFF_FFFF_FFFF_FFFF;
 
 fn check_served(checks: &mut Checks) {
