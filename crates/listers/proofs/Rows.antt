@@ -52,8 +52,8 @@ module _ {k m key w each size : ℕ} {old : List ℕ} (q : ListReady k m key w e
     taking-long = length-overTo numbers old {i = at} (t .holds) (omega (arith, numbers-long, t .within)) (omega (arith, t .within, q .takes))
 
     -- all are written
-    pub taking-all : size ≤ at → (at ≡ size) × (room ≡ over numbers old)
-    taking-all h = (omega (arith, t .within), overTo-all numbers old {i = at} (t .holds) (omega (arith, t .within, numbers-long)))
+    pub taking-all : size ≤ at → room ≡ over numbers old
+    taking-all h = overTo-all numbers old {i = at} (t .holds) (omega (arith, t .within, numbers-long))
 
     module _ {n refusal written : ℕ} {after : List ℕ} (h : at < size) (e : n ≡ min each (length room - at))
         (p : record { refusal = refusal; written = written; room = after } ≡ pageOutcome k m key w at (take n (drop at room))) where

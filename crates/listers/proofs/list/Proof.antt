@@ -86,7 +86,8 @@ unfolding listOutcome
 returns-2 c =
     let first = c .before .before in
     let args = first .before .before .before .before .args in
-    let is = tested (args .k) (args .m) (args .key) (args .word) (args .each) (args .room .now) (none first) (counted first) (c .before .lesser .ensures) (c .if2 .taken) in
+    let test : (ltb (length (args .room .now)) (first .before .before .size .result .count) || ltb (args .each) (c .before .lesser .result)) ≡ true = c .if2 .taken in
+    let is = tested (args .k) (args .m) (args .key) (args .word) (args .each) (args .room .now) (none first) (counted first) (c .before .lesser .ensures) test in
     refused 7 (λ e. omega arith) (keyed (wordOf (args .m) (args .key))) (args .k) (wordOf (args .m) (args .word)) (args .room .now)
     ∙ ap (λ (n : ℕ). listAnswer n (keyed (wordOf (args .m) (args .key))) (args .k) (wordOf (args .m) (args .word)) (args .room .now)) (sym is)
 
@@ -112,7 +113,7 @@ returns-3 c =
     let args = first .before .before .before .before .args in
     let is = tested (args .k) (args .m) (args .key) (args .word) (args .each) (args .room .now) (none first) (counted first) (c .before .before .before .before .before .lesser .ensures) (c .before .before .before .before .if2 .left) in
     let pages = c .before .before .list-pages .ensures in
-    ap₂ (λ (n : ℕ) (l : List ℕ). record { refusal = 0; written = n; room = l }) (pages .0 ∙ counted first) (pages .1)
+    ap₂ (λ (n : ℕ) (l : List ℕ). record { refusal = 0; written = n; room = l }) (counted first) pages
     ∙ ap (λ (n : ℕ). listAnswer n (keyed (wordOf (args .m) (args .key))) (args .k) (wordOf (args .m) (args .word)) (args .room .now)) (sym is)
 
 pub list-spec : {M : Type 1} → statement M
