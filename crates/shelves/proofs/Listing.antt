@@ -5,7 +5,7 @@ use mathlib.Core.Bool.{Bool, true, false, cond}
 use mathlib.Core.List.{List, [], _∷_, _++_, map, map-map, map-append, append-assoc, append-nil, List·Memᴰ, List·Memᴰ·not-nil}
 use mathlib.Core.Logic.{⊎-elim}
 use mathlib.Core.Path.{_≡_, refl, sym, ap, ap₂, fun-ext, _∙_}
-use native.Mathlib.Nat.{zero-add, suc-add, zero-sub, sub-zero, suc-sub-suc, add-assoc, suc-mul, add-mul, mul-assoc, mul-left-comm, mul-le-mul-left, mul-le-mul-right, pow-succ', one-le-pow, mod-lt, min-zero, suc-min-suc, zero-lt-suc}
+use native.Mathlib.Nat.{zero-add, suc-add, zero-sub, sub-zero, suc-sub-suc, add-assoc, suc-mul, add-mul, mul-assoc, mul-left-comm, mul-le-mul-right, pow-succ', pow-le-pow-right, one-le-pow, mod-lt, min-zero, suc-min-suc, zero-lt-suc}
 use native.Mathlib.Numerals.{add-one}
 use native.Mathlib.Omega.{arith}
 use lib.ListN.{length, getD, take, drop, set, length-append, length-take, length-drop, length-map, drop-of-length-le}
@@ -19,7 +19,7 @@ use Rattle.laws.specs.Counting.{map-agree, filter-words, length-words, words-nu
 use Rattle.laws.specs.Walks.{accepts, rest, accepts-split, rest-count, ways-count, ways-le}
 use Rattle.laws.specs.Rooms.{overTo, length-overTo, overTo-more}
 use Rattle.shelves.proofs.Ways.{live-lt}
-use Rattle.shelves.specs.Descents.{allowed, leads, met, waysFrom, waysUnder, completing, Ready, numbered, under, Listed, Descending}
+use Rattle.shelves.specs.Descents.{allowed, leads, met, waysFrom, waysUnder, completing, Ready, numbered, under, Listed, Descending, AtOnce, Longer}
 
 -- ---- lists
 
@@ -108,11 +108,6 @@ listed-full e = record { count = rw e; fills = rw e }
 -- of nothing, nothing is written
 listed-none : (skip : ℕ) (room : List ℕ) → Listed [] skip room room 0
 listed-none skip room = record { count = rw (drop-nil skip, take-nil (length room)); fills = rw (drop-nil skip, take-nil (length room)) }
-
--- one number is written
-listed-one : (x : ℕ) (room : List ℕ) → 0 < length room → Listed (x ∷ []) 0 room (set room 0 x) 1
-listed-one x [] h = absurd (omega arith)
-listed-one x (o ∷ os) h = record { count = rw (take-nil (length os)); fills = rw (take-nil (length os)) }
 
 module _ {from : List ℕ} (more : List ℕ) {old room : List ℕ} {skip written : ℕ} (l : Listed from skip old room written) where
   -- behind what is written of a list, what follows it is written
@@ -337,6 +332,11 @@ module _ {moves ban : List ℕ} {left s begun skip : ℕ} {old room : List ℕ} 
   pub going-all : 0 < left → 4 ≤ letter → Listed (under moves ban left s begun) skip old room written
   going-all h k = rw (← before-all moves ban left s begun {b = letter} h (omega (arith, g .few))) (g .lists)
 
+-- what is written at once is listed
+pub listed-once : {moves ban : List ℕ} {left state begun skip first count written : ℕ} {old room : List ℕ} → AtOnce moves ban left state begun skip first count
+    → 0 < count → Listed (tabulate (λ i. first + i) count) 0 old room written → Listed (under moves ban left state begun) skip old room written
+listed-once a h l = record { count = rw (a .some h) (l .count); fills = rw (a .some h) (l .fills) }
+
 -- ---- descending
 
 -- the numbers under a beginning stay below 4^31
@@ -353,6 +353,12 @@ begun-small left begun b o h k l =
     let up : 4 ^ (31 - (left - 1)) ≡ 4 * 4 ^ (31 - left) = ap (λ (i : ℕ). 4 ^ i) (omega arith) ∙ pow-succ' 4 (31 - left) in
     omega arith
 
+-- and stays below 4^31
+begun-low : (left begun b : ℕ) → 0 < left → left ≤ 31 → begun < 4 ^ (31 - left) → b < 4 → 4 * begun + b < 4 ^ 31
+begun-low left begun b o h k l =
+    let most : 4 ^ (31 - (left - 1)) ≤ 4 ^ 31 = pow-le-pow-right four-pos {j = 31} (omega arith) in
+    omega (arith, most, begun-small left begun b o h k l)
+
 -- where some way is left, and not all, some letter is left
 some-left : (moves ban : List ℕ) (s left skip : ℕ) → skip < waysFrom moves ban s left → (waysFrom moves ban s left ≡ 4 ^ left → ⊥) → 0 < left
 some-left moves ban s zero skip h n = absurd (n (omega (arith, ways-le (allowed ban) (leads moves) met s 0)))
@@ -360,60 +366,88 @@ some-left moves ban s (suc left) skip h n = zero-lt-suc left
 
 module _ {m word left state begun skip : ℕ} {moves ban ways powers : List ℕ} (d : Descending m word left state begun skip moves ban ways powers) where
   -- the power that is read
-  pub power-is : getD powers left 0 ≡ 4 ^ left
+  power-is : getD powers left 0 ≡ 4 ^ left
   power-is = d .powersAre .each left (omega (arith, d .few))
 
   -- it is not 0
   pub power-some : 0 < getD powers left 0
   power-some = rw power-is (one-le-pow left 4 four-pos)
 
-  -- the number with which the k-mers under the beginning start
-  pub first-is : begun * getD powers left 0 ≡ begun * 4 ^ left
-  first-is = ap (λ (p : ℕ). begun * p) power-is
-
   -- the ways that are read
-  pub count-is : getD ways (64 * left + state) 0 ≡ waysFrom moves ban state left
+  count-is : getD ways (64 * left + state) 0 ≡ waysFrom moves ban state left
   count-is = d .known .right left state (omega arith) (d .live)
 
+  -- one lies behind those to be passed over
+  pub count-more : skip < getD ways (64 * left + state) 0
+  count-more = rw count-is (d .behind)
+
   -- the state is below 64
-  pub state-lt : state < 64
+  state-lt : state < 64
   state-lt = live-lt (d .tables .few) (d .live)
 
+  -- the place of the ways is one of the table
+  pub count-inside : 64 * left + state < 2048
+  count-inside = omega (arith, d .few, state-lt)
+
   -- the numbers under the beginning stay below 4^31
-  pub numbers-fit : begun * 4 ^ left + 4 ^ left ≤ 4 ^ 31
+  numbers-fit : begun * 4 ^ left + 4 ^ left ≤ 4 ^ 31
   numbers-fit = begun-fits left begun (d .few) (d .small)
 
-  -- the number of what is begun is below 4^31
-  pub begun-lt : begun < 4 ^ 31
-  begun-lt = omega (arith, numbers-fit, one-le-pow left 4 four-pos, mul-le-mul-left begun (one-le-pow left 4 four-pos))
+  -- so does the number with which those that are listed start
+  pub start-lt : begun * getD powers left 0 + skip < 4 ^ 31
+  start-lt = rw power-is (omega (arith, numbers-fit, d .behind, ways-le (allowed ban) (leads moves) met state left))
 
-  -- the number that the rest of the word completes is too
-  pub rest-lt : begun * getD powers left 0 + word % getD powers left 0 < 4 ^ 31
-  rest-lt = rw power-is (omega (arith, numbers-fit, mod-lt word {m = 4 ^ left} (one-le-pow left 4 four-pos)))
+  -- where not every word completes the beginning, some letter is left: nothing is written at once
+  pub once-none : (getD ways (64 * left + state) 0 ≡ getD powers left 0 → ⊥) → AtOnce moves ban left state begun skip 0 0
+  once-none n =
+      record {
+        none = λ e. some-left moves ban state left skip (d .behind) (λ r. n (count-is ∙ r ∙ sym power-is));
+        some = λ h. absurd (omega arith);
+        fits = omega arith;
+      }
 
-  -- where not every word completes the beginning, some letter is left
-  pub letter-left : {count power : ℕ} → count ≡ waysFrom moves ban state left → power ≡ 4 ^ left → (count ≡ power → ⊥) → 0 < left
-  letter-left e q n = some-left moves ban state left skip (d .behind) (λ r. n (e ∙ r ∙ sym q))
-
-  -- where every word completes it, its numbers in a row are listed
-  pub listed-free : {old room : List ℕ} {written first count : ℕ} → first ≡ begun * 4 ^ left → count ≡ 4 ^ left → count ≡ waysFrom moves ban state left
-      → Listed (tabulate (λ i. (first + skip) + i) (count - skip)) 0 old room written → Listed (under moves ban left state begun) skip old room written
-  listed-free {old} {room} {written} {first} {count} e q r l =
-      let same : drop skip (under moves ban left state begun) ≡ tabulate (λ i. (first + skip) + i) (count - skip) =
-      ap (drop skip) (under-free moves ban left state begun (sym r ∙ q))
+  -- where every word completes it, its numbers follow one another
+  pub once-free : {first count : ℕ} → getD ways (64 * left + state) 0 ≡ getD powers left 0 → first ≡ begun * getD powers left 0 + skip
+      → count ≡ getD ways (64 * left + state) 0 - skip → AtOnce moves ban left state begun skip first count
+  once-free e p q =
+      let all : getD ways (64 * left + state) 0 ≡ 4 ^ left = e ∙ power-is in
+      let same : drop skip (under moves ban left state begun) ≡ tabulate (λ i. (begun * 4 ^ left + skip) + i) (4 ^ left - skip) =
+      ap (drop skip) (under-free moves ban left state begun (sym count-is ∙ all))
       ∙ drop-tabulate (λ i. begun * 4 ^ left + i) (4 ^ left) skip
-      ∙ rw (q, e) (tabulate-agree (4 ^ left - skip) (λ i h. sym (add-assoc (begun * 4 ^ left) skip i))) in
-      record { count = rw same (l .count); fills = rw same (l .fills) }
+      ∙ tabulate-agree (4 ^ left - skip) (λ i h. sym (add-assoc (begun * 4 ^ left) skip i)) in
+      rw (p, q)
+      (record {
+        none = λ h. absurd (omega (arith, count-more));
+        some = λ h. rw (all, power-is) same;
+        fits = rw power-is (omega (arith, all, count-more, numbers-fit));
+      })
 
-  -- where just the rest of the word is left, its one number is listed
-  pub listed-rest : {room : List ℕ} {power : ℕ} → power ≡ 4 ^ left → state + left ≡ m → 0 < length room
-      → Listed (under moves ban left state begun) skip room (set room 0 (begun * power + word % power)) 1
-  listed-rest {room} {power} p e h =
-      let some : 0 < left = ⊎-elim (λ l. omega arith) (λ l. omega (arith, d .tables .few)) (d .live) in
-      let one = d .rest state left e some (omega (arith, d .behind)) in
-      let none : skip ≡ 0 =
-      omega (arith, d .behind, ways-count (allowed ban) (leads moves) met state left, length-map (completing moves ban state left) val, ap length one) in
-      rw (p, none, under-one moves ban left state begun one) (listed-one (begun * 4 ^ left + word % 4 ^ left) room h)
+  -- where just the rest of the word is left
+  module _ (e : state + left ≡ m) where
+    -- it alone completes the beginning
+    rest-alone : (map val (completing moves ban state left) ≡ word % 4 ^ left ∷ []) × (skip ≡ 0)
+    rest-alone =
+        let some : 0 < left = ⊎-elim (λ l. omega arith) (λ l. omega (arith, d .tables .few)) (d .live) in
+        let one = d .rest state left e some (omega (arith, d .behind)) in
+        (one, omega (arith, d .behind, ways-count (allowed ban) (leads moves) met state left, length-map (completing moves ban state left) val, ap length one))
+
+    -- its number is below 4^31
+    pub rest-lt : begun * getD powers left 0 + skip + word % getD powers left 0 < 4 ^ 31
+    rest-lt = rw power-is (omega (arith, rest-alone .1, numbers-fit, mod-lt word {m = 4 ^ left} (one-le-pow left 4 four-pos)))
+
+    -- it is one number
+    pub once-rest : {first count : ℕ} → first ≡ begun * getD powers left 0 + skip + word % getD powers left 0 → count ≡ 1
+        → AtOnce moves ban left state begun skip first count
+    once-rest p q =
+        let start : begun * getD powers left 0 + skip + word % getD powers left 0 + 0 ≡ begun * 4 ^ left + word % 4 ^ left =
+        rw power-is (omega (arith, rest-alone .1)) in
+        let none-passed : drop skip (under moves ban left state begun) ≡ under moves ban left state begun = ap (λ (i : ℕ). drop i (under moves ban left state begun)) (rest-alone .1) in
+        rw (p, q)
+        (record {
+          none = λ h. absurd (omega arith);
+          some = λ h. none-passed ∙ under-one moves ban left state begun (rest-alone .0) ∙ ap (λ (x : ℕ). x ∷ []) (sym start);
+          fits = omega (arith, rest-lt);
+        })
 
   -- what reading the ways under a letter asks
   pub ready : 0 < left → Ready left state moves ban ways
@@ -427,9 +461,15 @@ module _ {m word left state begun skip : ℕ} {moves ban ways powers : List ℕ}
         few = d .few;
       }
 
-  -- where a letter leads is below 64
-  pub leads-lt : {b : ℕ} → b < 4 → leads moves state b < 64
-  leads-lt {b} h = live-lt (d .tables .few) (d .tables .lead state b (d .live) h)
+  -- what going one letter further down asks
+  pub longer-ready : {b : ℕ} → 0 < left → b < 4 → Longer left state begun b moves
+  longer-ready {b} o h =
+      record {
+        some = o;
+        place = omega (arith, state-lt);
+        low = live-lt (d .tables .few) (d .tables .lead state b (d .live) h);
+        small = begun-low left begun b o (d .few) (d .small) h;
+      }
 
   -- one letter further down
   pub descend : {b passed count : ℕ} → 0 < left → b < 4 → count ≡ waysUnder moves ban state (left - 1) b → passed < count

@@ -7,7 +7,7 @@ use mathlib.Core.Logic.{_⊎_}
 use mathlib.Core.Path.{_≡_}
 use lib.Dec.{ltb, leb, eqb}
 use lib.ListN.{length, getD, take, drop}
-use Rattle.definitions.specs.Lists.{filter, over}
+use Rattle.definitions.specs.Lists.{filter, tabulate, over}
 use Rattle.definitions.specs.Words.{Word, words, val}
 use Rattle.definitions.specs.Shelves.{size}
 use Rattle.definitions.specs.Refusals.{refusal, badStart}
@@ -121,6 +121,25 @@ pub record Descending (m word left state begun skip : ℕ) (moves ban ways power
   pub small : begun < 4 ^ (31 - left)
   pub behind : skip < waysFrom moves ban state left
   pub rest : (i n : ℕ) → i + n ≡ m → 0 < n → 0 < waysFrom moves ban i n → map val (completing moves ban i n) ≡ word % 4 ^ n ∷ []
+
+-- some tables of moves and bans by which that holds
+pub record Descends (m word left state begun skip : ℕ) (ways powers : List ℕ) : Type 0 where
+  pub moves : List ℕ
+  pub ban : List ℕ
+  pub descends : Descending m word left state begun skip moves ban ways powers
+
+-- numbers that follow one another, `count` from `first` on: if any, the k-mers under a beginning from place `skip` on; if none, some letter is left
+pub record AtOnce (moves ban : List ℕ) (left state begun skip first count : ℕ) : Type 0 where
+  pub none : count ≡ 0 → 0 < left
+  pub some : 0 < count → drop skip (under moves ban left state begun) ≡ tabulate (λ i. first + i) count
+  pub fits : first + count ≤ 4 ^ 31
+
+-- what going one letter further down asks
+pub record Longer (left state begun letter : ℕ) (moves : List ℕ) : Type 0 where
+  pub some : 0 < left
+  pub place : 4 * state + letter < 256
+  pub low : leads moves state letter < 64
+  pub small : 4 * begun + letter < 4 ^ 31
 
 -- the next states and bans of a word of m letters and its number, under a ranking
 pub record ShelfOf (ρ : Ranking) (w : Word) (m word : ℕ) (next ban : List ℕ) : Type 0 where

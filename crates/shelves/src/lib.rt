@@ -7,17 +7,27 @@
 // every word completes a beginning, and where nothing but the rest of the word itself does, what follows is written at once.
 ghost use mathlib.Core.Path.{_≡_};
 ghost use mathlib.Core.Bool.{cond};
-ghost use Prim.Native.Nat.{suc, _+_, _-_, _*_, _^_, _≤_, _<_};
+ghost use mathlib.Core.List.{List};
+ghost use Prim.Native.Nat.{ℕ, suc, _+_, _-_, _*_, _^_, _≤_, _<_};
+ghost use lib.Dec.{eqb};
 ghost use lib.ListN.{length};
 ghost use Rattle.definitions.specs.Lists.{tabulate};
 ghost use Rattle.definitions.specs.Outcomes.{pageOutcome};
 ghost use Rattle.laws.specs.Rooms.{Written};
 ghost use Rattle.states.specs.Tables.{Known, All};
-ghost use Rattle.shelves.specs.Descents.{NextsSmall, MovesOf, met, waysFrom, waysUnder, Tables, WaysTo, Ready, RowReady, under, Listed, Descending, ShelfOf, PageIs};
+ghost use Rattle.shelves.specs.Descents.{NextsSmall, MovesOf, leads, met, waysFrom, waysUnder, Tables, WaysTo, Ready, RowReady, under, Listed, Descending, Descends, AtOnce, Longer, ShelfOf, PageIs};
 ghost use Rattle.shelves.specs.Answers.{paged};
 
 // What is added to a state where the word was met.
 const MET: u8 = 32;
+
+// Where a letter leads, by its next state: the word is met where that is m.
+fn arrive(m: u64, to: u8) -> u8
+    requires { ⌜ to ≤ 31 ⌝ }
+    ensures { λ r. ⌜ r ≡ cond (eqb to m) (to + 32) to ⌝ }
+{
+    if to as u64 == m { to + MET } else { to }
+}
 
 // Where each letter leads from each state: in the first 32 rows the word was not met before, in the others it was. It is met where the next
 // state is m.
@@ -30,7 +40,7 @@ fn moves_of(m: u64, next: &[u8; 128]) -> [u8; 256]
     while c < 128 {
         let to = next[c];
         let after = to + MET;
-        moves[c] = if to as u64 == m { after } else { to };
+        moves[c] = arrive(m, to);
         moves[128 + c] = after;
         c += 1;
     }
@@ -131,6 +141,63 @@ struct Beginning {
     begun: u64,
 }
 
+// Numbers that follow one another: the first, how many.
+struct Stretch {
+    first: u64,
+    count: u64,
+}
+
+// The k-mers under a beginning from place `skip` on, where they are written at once: where every word completes it, and where just the rest of the
+// word does. Elsewhere none.
+fn at_once(
+    m: u64,
+    word: u64,
+    at: Beginning,
+    skip: u64,
+    ways: &[u64; 2048],
+    powers: &[u64; 32],
+) -> Stretch
+    requires { ⌜ Descends m word (at .left) (at .state) (at .begun) skip (now ways) (now powers) ⌝ }
+    ensures { λ r. ⌜ ((moves ban : List ℕ) → Descending m word (at .left) (at .state) (at .begun) skip moves ban (now (ways .entry)) (now (powers .entry)) → AtOnce moves ban (at .left) (at .state) (at .begun) skip (r .first) (r .count)) ⌝ }
+{
+    let left = at.left;
+    let state = at.state;
+    let power = powers[left as usize];
+    let count = ways[(64 * left + state) as usize];
+    let first = at.begun * power + skip;
+    if count == power {
+        let ahead = count - skip;
+        return Stretch {
+            first,
+            count: ahead,
+        };
+    }
+    if state + left == m {
+        let rest = word % power;
+        let only = first + rest;
+        return Stretch {
+            first: only,
+            count: 1,
+        };
+    }
+    Stretch { first: 0, count: 0 }
+}
+
+// The beginning that is longer by a letter.
+fn longer(at: Beginning, letter: u64, moves: &[u8; 256]) -> Beginning
+    requires { ⌜ Longer (at .left) (at .state) (at .begun) letter (now moves) ⌝ }
+    ensures { λ r. ⌜ r ≡ record { left = at .left - 1; state = leads (now (moves .entry)) (at .state) letter; begun = 4 * at .begun + letter } ⌝ }
+{
+    let fewer = at.left - 1;
+    let to = moves[(4 * at.state + letter) as usize] as u64;
+    let begun = 4 * at.begun + letter;
+    Beginning {
+        left: fewer,
+        state: to,
+        begun,
+    }
+}
+
 // Writes the k-mers under a beginning, after so many that are passed over, as many as the room takes.
 fn fill(
     m: u64,
@@ -149,43 +216,19 @@ fn fill(
     if room.len() == 0 {
         return 0;
     }
-    let left = at.left;
-    let state = at.state;
-    let power = powers[left as usize];
-    let first = at.begun * power;
-    let count = ways[(64 * left + state) as usize];
-    if count == power {
-        return run(first + skip, count - skip, room);
-    }
-    if state + left == m {
-        room[0] = first + word % power;
-        return 1;
+    let all = at_once(m, word, at, skip, ways, powers);
+    if 0 < all.count {
+        return run(all.first, all.count, room);
     }
     let mut passed = skip;
     let mut written: usize = 0;
     let mut letter: u64 = 0;
     while letter < 4 {
-        let under = ways_under(left, state, letter, moves, ban, ways);
+        let under = ways_under(at.left, at.state, letter, moves, ban, ways);
         if passed < under {
-            let fewer = left - 1;
-            let to = moves[(4 * state + letter) as usize] as u64;
-            let begun = 4 * at.begun + letter;
-            let next = Beginning {
-                left: fewer,
-                state: to,
-                begun,
-            };
-            written += fill(
-                m,
-                word,
-                next,
-                passed,
-                moves,
-                ban,
-                ways,
-                powers,
-                &mut room[written..],
-            );
+            let next = longer(at, letter, moves);
+            let behind = &mut room[written..];
+            written += fill(m, word, next, passed, moves, ban, ways, powers, behind);
             passed = 0;
         } else {
             passed -= under;

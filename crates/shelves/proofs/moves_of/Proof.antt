@@ -1,11 +1,10 @@
 -- `shelves::moves_of` meets its contract. The loop's invariant: the entries of the places below c are right. The measure is how many are left.
 -- Assumes nothing.
 use Prim.Native.Nat.{_-_, _≤_}
-use mathlib.Core.Logic.{⊎-elim}
 use mathlib.Core.Path.{refl}
 use native.Mathlib.Omega.{arith}
 use lib.ListN.{getD}
-use Rattle.shelves.proofs.Ways.{MovesTo, moves-none, moves-more, moves-all, move-met, move-unmet}
+use Rattle.shelves.proofs.Ways.{MovesTo, moves-none, moves-more, moves-all}
 use Rattle.shelves.proofs.moves_of.Statement.{statement}
 use Rattle.shelves.proofs.moves_of.Tie as tie
 
@@ -28,8 +27,8 @@ small c = c .before .before .before .pre .small _ (omega arith)
 add-after : tie.Need-add-after Inv-loop μ-loop
 add-after c = omega (arith, small c)
 
-cast-if1 : tie.Need-cast-if1 Inv-loop μ-loop
-cast-if1 c = omega (arith, small c)
+arrive-requires : tie.Need-arrive-requires Inv-loop μ-loop
+arrive-requires c κs = small c
 
 array-write-moves : tie.Need-array-write-moves Inv-loop μ-loop
 array-write-moves c = omega arith
@@ -49,7 +48,7 @@ loop-less c = omega arith
 loop-again : tie.Need-loop-again Inv-loop μ-loop
 loop-again c =
     let at = c .before .before .before .loop in
-    (omega arith, moves-more (at .inv .1) (omega arith) (⊎-elim (λ w. move-met (w .0 .taken) (w .1)) (λ w. move-unmet (w .0 .left) (w .1)) (c .if1 .came)) (omega arith))
+    (omega arith, moves-more (at .inv .1) (omega arith) (c .arrive .ensures) (omega arith))
 
 returns : tie.Need-returns Inv-loop μ-loop
 returns c = moves-all (c .before .loop .inv .1) (omega arith)
@@ -63,7 +62,7 @@ moves-of-spec =
     loop-holds
     element-copy-out-to
     add-after
-    cast-if1
+    arrive-requires
     array-write-moves
     add-moves
     array-write-moves-2
