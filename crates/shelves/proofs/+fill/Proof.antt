@@ -72,10 +72,10 @@ fill-loop-holds t c =
     going-first (args .moves .now) (args .ban .now) (args .at .left) (args .at .state) (args .at .begun) (args .skip) (args .room .now)
 
 fill-ways-under-requires : (t : ℕ) → fill-lts.Need-ways-under-requires (calls t) (fill-at t) fill.Post fill-Inv-loop fill-μ-loop
-fill-ways-under-requires t c κs = (ready (c .before .before .before .before .before .before .before .pre .1) (some-letter t (c .before .before)), c .loop-test .taken)
+fill-ways-under-requires t c κs = (ready (c .before .before .before .before .before .before .before .pre .1) (some-letter t (c .before .before)), omega arith)
 
 fill-longer-requires : (t : ℕ) → fill-lts.Need-longer-requires (calls t) (fill-at t) fill.Post fill-Inv-loop fill-μ-loop
-fill-longer-requires t c κs = longer-ready (c .before .before .before .before .before .before .before .before .before .pre .1) (some-letter t (c .before .before .before .before)) (c .before .before .loop-test .taken)
+fill-longer-requires t c κs = longer-ready (c .before .before .before .before .before .before .before .before .before .pre .1) (some-letter t (c .before .before .before .before)) (omega arith)
 
 fill-mul-behind : (t : ℕ) → fill-lts.Need-mul-behind (calls t) (fill-at t) fill.Post fill-Inv-loop fill-μ-loop
 fill-mul-behind t c =
@@ -101,7 +101,9 @@ fill-fill-requires : (t : ℕ) → fill-lts.Need-fill-requires (calls t) (fill-a
 fill-fill-requires t c κs =
     let start = c .before .before .before .before .before .before .before .before .before .before .before in
     let some = some-letter t (c .before .before .before .before .before .before) in
-    rw (c .before .longer .ensures) (omega (arith, start .pre .0, some), descend (start .pre .1) some (c .before .before .before .before .loop-test .taken) (c .before .before .before .ways-under .ensures) (c .before .before .if3 .taken))
+    let at = c .before .before .before .before .before .loop in
+    let entered : at .passed < c .before .before .before .ways-under .result = omega arith in
+    rw (c .before .longer .ensures) (omega (arith, start .pre .0, some), descend (start .pre .1) some (omega arith) (c .before .before .before .ways-under .ensures) entered)
 
 fill-add-written : (t : ℕ) → fill-lts.Need-add-written (calls t) (fill-at t) fill.Post fill-Inv-loop fill-μ-loop
 fill-add-written t c =
@@ -110,10 +112,10 @@ fill-add-written t c =
     omega (arith, going-room (at .inv) (rw (c .before .before .before .before .longer .ensures) at (c .before .before .fill .ensures)), start .good .1 .1 .1 .1 .1 .1 .1 .1 .0 .0)
 
 fill-add-letter : (t : ℕ) → fill-lts.Need-add-letter (calls t) (fill-at t) fill.Post fill-Inv-loop fill-μ-loop
-fill-add-letter t c = omega (arith, c .before .before .loop-test .taken)
+fill-add-letter t c = omega arith
 
 fill-loop-less : (t : ℕ) → fill-lts.Need-loop-less (calls t) (fill-at t) fill.Post fill-Inv-loop fill-μ-loop
-fill-loop-less t c = omega (arith, c .before .before .loop-test .taken)
+fill-loop-less t c = omega arith
 
 fill-loop-again : (t : ℕ) → fill-lts.Need-loop-again (calls t) (fill-at t) fill.Post fill-Inv-loop fill-μ-loop
 fill-loop-again t c =

@@ -1,9 +1,8 @@
 -- `shelves::page_by` meets its contract: the table of ways holds the size, and what is listed under the empty beginning is the page.
 -- Assumes nothing.
-use Prim.Native.Nat.{ℕ}
+use mathlib.Core.Path.{refl}
 use native.Mathlib.Omega.{arith}
 use borrow.Author.Needs.{needs}
-use Rattle.laws.specs.Filters.{length-tabulate}
 use Rattle.words.specs.Powers.{powers-are}
 use Rattle.shelves.proofs.Shelf.{nexts-small, tables, size-read, descending, page-refused, page-none, page-listed}
 use Rattle.shelves.proofs.page_by.Statement.{statement}
@@ -15,7 +14,7 @@ moves-of-requires c κs = nexts-small (c .before .pre .0 .2)
 ways-table-requires : tie.Need-ways-table-requires
 ways-table-requires c κs =
     let start = c .before .before .before .before in
-    (tables (start .pre .0 .2) (c .before .before .moves-of .ensures), (start .pre .1 .1, length-tabulate {A = ℕ} (λ i. 0) 2048))
+    (tables (start .pre .0 .2) (c .before .before .moves-of .ensures), (start .pre .1 .1, refl))
 
 mul-size : tie.Need-mul-size
 mul-size c = search needs
