@@ -150,13 +150,14 @@ module _ {first count n : ℕ} {old room : List ℕ} {i : ℕ} (r : Running firs
       length-overTo (tabulate (λ j. first + j) count) old {i = i} (r .writes) (rw length-tabulate (omega (arith, r .least, r .within))) (omega (arith, r .least, r .within))
 
   -- one more is written
-  pub running-more : i < n → Running first count n old (set room i (first + i)) (suc i)
-  running-more h =
+  pub running-more : i < n → {j : ℕ} → j ≡ suc i → Running first count n old (set room i (first + i)) j
+  running-more h e =
       record {
         least = r .least;
-        within = h;
+        within = omega arith;
         writes = overTo-more (tabulate (λ j. first + j) count) old 0 (r .writes) (sym (tabulate-at (λ j. first + j) count i 0 (omega (arith, r .least))))
-            (rw length-tabulate (omega (arith, r .least))) (omega (arith, r .least));
+            (rw length-tabulate (omega (arith, r .least))) (omega (arith, r .least))
+            ∙ ap (λ (k : ℕ). overTo k (tabulate (λ j. first + j) count) old) (sym e);
       }
 
   -- all are written
