@@ -1,10 +1,10 @@
 -- Filters: what is chosen from a list, from joined lists, and from all words of n + 1 letters.
 -- Assumes nothing.
-use Prim.Native.Nat.{ℕ, zero, suc, _+_, _*_, _≤_, _<_, min, suc-le-suc}
-use native.Mathlib.Nat.{le-refl, le-of-suc-le-suc, not-suc-le-zero, zero-lt-suc, mul-zero, mul-suc, min-zero, suc-min-suc}
+use Prim.Native.Nat.{ℕ, zero, suc, _+_, _-_, _*_, _≤_, _<_, min, suc-le-suc}
+use native.Mathlib.Nat.{zero-add, suc-add, zero-sub, sub-zero, suc-sub-suc, le-refl, le-of-suc-le-suc, not-suc-le-zero, zero-lt-suc, mul-zero, mul-suc, min-zero, suc-min-suc}
 use native.Mathlib.Omega.{arith}
 use mathlib.Core.Bool.{Bool, true, false, cond, _&&_, _||_}
-use mathlib.Core.List.{List, [], _∷_, _++_, map, List·Memᴰ, List·Memᴰ·head, List·Memᴰ·tail, List·Memᴰ·cases-cons, List·Memᴰ·not-nil}
+use mathlib.Core.List.{List, [], _∷_, _++_, map, map-append, append-assoc, List·Memᴰ, List·Memᴰ·head, List·Memᴰ·tail, List·Memᴰ·cases-cons, List·Memᴰ·not-nil}
 use mathlib.Core.Logic.{_⊎_, inl, inr, ⊎-elim}
 use mathlib.Core.Path.{_≡_, refl, sym, ap, ap₂, _∙_}
 use lib.ListN.{length, getD, take, drop, length-append, length-map}
@@ -93,6 +93,16 @@ module _ {A : Type 0} where
   put-either false true a l u v h e = omega arith
   put-either false false a l u v h e = e
 
+  -- what passes a test is all, where as many pass it as there are
+  pub filter-full : (p : A → Bool) (l : List A) → length (filter p l) ≡ length l → filter p l ≡ l
+  filter-full p [] e = refl
+  filter-full p (a ∷ l) e = go (p a) (λ h. filter-full p l h) e
+    where
+      go : (t : Bool) → (length (filter p l) ≡ length l → filter p l ≡ l) → length (put t a (filter p l)) ≡ suc (length l)
+          → put t a (filter p l) ≡ a ∷ l
+      go true rec h = ap (λ (r : List A). a ∷ r) (rec (omega arith))
+      go false rec h = absurd (omega (arith, filter-le p l))
+
   -- where no entry passes both of two tests, as many pass either as pass the one and the other
   pub length-either : (p q : A → Bool) (l : List A) → ((x : A) → List·Memᴰ x l → p x ≡ true → q x ≡ true → ⊥)
       → length (filter (λ x. p x || q x) l) ≡ length (filter p l) + length (filter q l)
@@ -154,6 +164,24 @@ take-least [] k = take-nil (min 0 k) ∙ sym (take-nil k)
 take-least (x ∷ l) zero = rw min-zero
 take-least {A} (x ∷ l) (suc k) = rw suc-min-suc (ap (λ (r : List A). x ∷ r) (take-least l k))
 
+module _ {A : Type 0} where
+  -- what lies behind a place of two lists in a row
+  drop-append : (r : ℕ) (p a : List A) → drop r (p ++ a) ≡ drop r p ++ drop (r - length p) a
+  drop-append zero p a = rw zero-sub
+  drop-append (suc r) [] a = rw sub-zero
+  drop-append (suc r) (x ∷ p) a = rw suc-sub-suc (drop-append r p a)
+
+  -- the first entries of two lists in a row
+  take-append : (n : ℕ) (p a : List A) → take n (p ++ a) ≡ take n p ++ take (n - length (take n p)) a
+  take-append zero p a = refl
+  take-append (suc n) [] a = rw sub-zero
+  take-append (suc n) (x ∷ p) a = rw suc-sub-suc (ap (λ (l : List A). x ∷ l) (take-append n p a))
+
+  -- n entries from a place on of two lists in a row: those of the first, and what is left of n of the second
+  pub part-append : (n r : ℕ) (p a : List A)
+      → take n (drop r (p ++ a)) ≡ take n (drop r p) ++ take (n - length (take n (drop r p))) (drop (r - length p) a)
+  part-append n r p a = ap (take n) (drop-append r p a) ∙ take-append n (drop r p) (drop (r - length p) a)
+
 module _ {A B : Type 0} (f : A → B) where
   -- the first of what a function gives
   pub take-map : (n : ℕ) (l : List A) → take n (map f l) ≡ map f (take n l)
@@ -184,6 +212,12 @@ module _ {A : Type 0} where
   tabulate-agree zero h = refl
   tabulate-agree (suc n) h = ap₂ (λ (a : A) (l : List A). a ∷ l) (h zero (omega arith)) (tabulate-agree n (λ i k. h (suc i) (omega arith)))
 
+  -- a table from a place on is a table
+  pub drop-tabulate : (f : ℕ → A) (n r : ℕ) → drop r (tabulate f n) ≡ tabulate (λ i. f (r + i)) (n - r)
+  drop-tabulate f n zero = simp (zero-add, sub-zero)
+  drop-tabulate f zero (suc r) = rw zero-sub
+  drop-tabulate f (suc n) (suc r) = simp (suc-add, suc-sub-suc) (drop-tabulate (λ i. f (suc i)) n r)
+
 module _ {A B : Type 0} where
   -- the lists that f gives for some entries, in a row
   abbrev pub joined : (A → List B) → List A → List B
@@ -209,6 +243,16 @@ module _ {A B : Type 0} where
       let place : n * suc i ≡ n + n * i = omega (arith, mul-suc n i) in
       rw (place, ← drop-drop (n * i) n (f a ++ joined f l), drop-at (f a) (joined f l) n (e a)) (joined-at f n e l d i (le-of-suc-le-suc h))
 
+  -- what some entries and then some more give
+  pub joined-append : (f : A → List B) (u v : List A) → joined f (u ++ v) ≡ joined f u ++ joined f v
+  joined-append f [] v = refl
+  joined-append f (a ∷ u) v = rw (joined-append f u v, append-assoc)
+
+  -- a function of a table
+  pub map-tabulate : (g : A → B) (f : ℕ → A) (n : ℕ) → map g (tabulate f n) ≡ tabulate (λ i. g (f i)) n
+  map-tabulate g f zero = refl
+  map-tabulate g f (suc n) = ap (λ (r : List B). g (f zero) ∷ r) (map-tabulate g (λ i. f (suc i)) n)
+
   -- a filter of what a function gives
   pub filter-map : (p : B → Bool) (g : A → B) (l : List A) → filter p (map g l) ≡ map g (filter (λ z. p (g z)) l)
   filter-map p g [] = refl
@@ -217,6 +261,12 @@ module _ {A B : Type 0} where
       map-put : (t : Bool) (x : A) (r : List A) → put t (g x) (map g r) ≡ map g (put t x r)
       map-put true x r = refl
       map-put false x r = refl
+
+module _ {A B C : Type 0} where
+  -- a function of what some entries give
+  pub map-joined : (g : B → C) (f : A → List B) (l : List A) → map g (joined f l) ≡ joined (λ a. map g (f a)) l
+  map-joined g f [] = refl
+  map-joined g f (a ∷ l) = rw (map-append, map-joined g f l)
 
 -- how many words some letters begin
 pub length-begun : (F : ℕ → List Word) (ls : List ℕ) → length (joined (λ a. map (λ (z : Word). a ∷ z) (F a)) ls) ≡ total (map (λ a. length (F a)) ls)

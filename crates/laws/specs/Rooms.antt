@@ -2,15 +2,15 @@
 -- Assumes nothing.
 use Prim.Native.Nat.{ℕ, suc, _+_, _*_, _≤_, _<_}
 use mathlib.Core.Bool.{Bool, true, false}
-use mathlib.Core.List.{List, [], _∷_, _++_}
+use mathlib.Core.List.{List, [], _∷_, _++_, append-assoc}
 use mathlib.Core.Logic.{_⊎_, inl, inr, ⊎-elim}
 use mathlib.Core.Path.{_≡_, refl, sym, ap, _∙_}
 use native.Mathlib.Numerals.{add-one}
 use native.Mathlib.Omega.{arith}
 use borrow.Author.Tests.{eqb-true, eqb-false}
 use lib.Dec.{eqb}
-use lib.ListN.{length, getD, set, take, drop, length-set}
-use lib.Seq.{length-take-le, drop-cons, drop-drop, take-add, take-at, drop-at, take-length, length-front, sets, sets-eq, getD-set-same, getD-set-other}
+use lib.ListN.{length, getD, set, take, drop, length-set, length-append, length-drop}
+use lib.Seq.{take-append-seam, drop-append-seam, length-take-le, drop-cons, drop-drop, take-add, take-at, drop-at, take-length, length-front, sets, sets-eq, getD-set-same, getD-set-other}
 use Rattle.definitions.specs.Lists.{over}
 use Rattle.definitions.specs.Words.{bytes}
 use Rattle.definitions.specs.Outcomes.{asBytes}
@@ -18,6 +18,15 @@ use Rattle.laws.specs.Filters.{joined, length-joined-even, joined-at}
 use Rattle.laws.specs.Numbers.{length-digits}
 
 module _ {A : Type 0} where
+  -- two lists are written one after the other
+  pub over-append : (u v old : List A) → over (u ++ v) old ≡ take (length u) (over u old) ++ over v (drop (length u) (over u old))
+  over-append u v old =
+      rw (take-append-seam, drop-append-seam, append-assoc, length-append, ← drop-drop (length v) (length u) old)
+
+  -- writing keeps the length
+  pub length-over : (u old : List A) → length u ≤ length old → length (over u old) ≡ length old
+  length-over u old h = rw (length-append, length-drop) (omega arith)
+
   -- room of which the first i entries are written
   abbrev pub overTo : ℕ → List A → List A → List A
   overTo i new old = take i new ++ drop i old

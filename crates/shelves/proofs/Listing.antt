@@ -2,91 +2,24 @@
 -- Assumes nothing.
 use Prim.Native.Nat.{ℕ, zero, suc, _+_, _-_, _*_, _%_, _^_, _≤_, _<_, min}
 use mathlib.Core.Bool.{Bool, true, false, cond}
-use mathlib.Core.List.{List, [], _∷_, _++_, map, map-map, map-append, append-assoc, append-nil, List·Memᴰ, List·Memᴰ·not-nil}
+use mathlib.Core.List.{List, [], _∷_, _++_, map, map-map, append-nil, List·Memᴰ, List·Memᴰ·not-nil}
 use mathlib.Core.Logic.{⊎-elim}
 use mathlib.Core.Path.{_≡_, refl, sym, ap, ap₂, fun-ext, _∙_}
-use native.Mathlib.Nat.{zero-add, suc-add, zero-sub, sub-zero, suc-sub-suc, add-assoc, suc-mul, add-mul, mul-assoc, mul-left-comm, mul-le-mul-right, pow-succ', pow-le-pow-right, one-le-pow, mod-lt, min-zero, suc-min-suc, zero-lt-suc}
+use native.Mathlib.Nat.{sub-zero, add-assoc, suc-mul, add-mul, mul-assoc, mul-left-comm, mul-le-mul-right, pow-succ', pow-le-pow-right, one-le-pow, mod-lt, zero-lt-suc}
 use native.Mathlib.Numerals.{add-one}
 use native.Mathlib.Omega.{arith}
 use lib.ListN.{length, getD, take, drop, set, length-append, length-take, length-drop, length-map, drop-of-length-le}
 use lib.Pow.{pow-add}
-use lib.Seq.{take-all, take-nil, drop-nil, take-suc, take-append-seam, drop-append-seam, drop-drop}
-use Rattle.definitions.specs.Lists.{put, filter, tabulate, over}
+use lib.Seq.{take-all, take-nil, drop-nil, take-suc}
+use Rattle.definitions.specs.Lists.{filter, tabulate, over}
 use Rattle.definitions.specs.Words.{Word, letters, words, val}
 use Rattle.laws.specs.Numbers.{letters-at, four-pos}
-use Rattle.laws.specs.Filters.{joined, length-tabulate, tabulate-at, tabulate-agree, filter-le}
+use Rattle.laws.specs.Filters.{filter-full, take-least, part-append, joined, joined-append, map-joined, length-tabulate, tabulate-at, tabulate-agree, drop-tabulate, map-tabulate}
 use Rattle.laws.specs.Counting.{map-agree, filter-words, length-words, words-numbers}
 use Rattle.laws.specs.Walks.{accepts, rest, accepts-split, rest-count, ways-count, ways-le}
-use Rattle.laws.specs.Rooms.{overTo, length-overTo, overTo-more}
+use Rattle.laws.specs.Rooms.{over-append, length-over, overTo, length-overTo, overTo-more}
 use Rattle.shelves.proofs.Ways.{live-lt}
 use Rattle.shelves.specs.Descents.{allowed, leads, met, waysFrom, waysUnder, completing, Ready, numbered, under, Listed, Descending, AtOnce, Longer}
-
--- ---- lists
-
-module _ {A : Type 0} where
-  -- what lies behind a place of two lists in a row
-  drop-append : (r : ℕ) (p a : List A) → drop r (p ++ a) ≡ drop r p ++ drop (r - length p) a
-  drop-append zero p a = rw zero-sub
-  drop-append (suc r) [] a = rw sub-zero
-  drop-append (suc r) (x ∷ p) a = rw suc-sub-suc (drop-append r p a)
-
-  -- the first entries of two lists in a row
-  take-append : (n : ℕ) (p a : List A) → take n (p ++ a) ≡ take n p ++ take (n - length (take n p)) a
-  take-append zero p a = refl
-  take-append (suc n) [] a = rw sub-zero
-  take-append (suc n) (x ∷ p) a = rw suc-sub-suc (ap (λ (l : List A). x ∷ l) (take-append n p a))
-
-  -- n entries from a place on of two lists in a row: those of the first, and what is left of n of the second
-  part-append : (n r : ℕ) (p a : List A)
-      → take n (drop r (p ++ a)) ≡ take n (drop r p) ++ take (n - length (take n (drop r p))) (drop (r - length p) a)
-  part-append n r p a = ap (take n) (drop-append r p a) ∙ take-append n (drop r p) (drop (r - length p) a)
-
-  -- two lists are written one after the other
-  over-append : (u v old : List A) → over (u ++ v) old ≡ take (length u) (over u old) ++ over v (drop (length u) (over u old))
-  over-append u v old =
-      rw (take-append-seam, drop-append-seam, append-assoc, length-append, ← drop-drop (length v) (length u) old)
-
-  -- writing keeps the length
-  length-over : (u old : List A) → length u ≤ length old → length (over u old) ≡ length old
-  length-over u old h = rw (length-append, length-drop) (omega arith)
-
-  -- what passes a test is all, where as many pass it as there are
-  filter-full : (p : A → Bool) (l : List A) → length (filter p l) ≡ length l → filter p l ≡ l
-  filter-full p [] e = refl
-  filter-full p (a ∷ l) e = go (p a) (λ h. filter-full p l h) e
-    where
-      go : (t : Bool) → (length (filter p l) ≡ length l → filter p l ≡ l) → length (put t a (filter p l)) ≡ suc (length l)
-          → put t a (filter p l) ≡ a ∷ l
-      go true rec h = ap (λ (r : List A). a ∷ r) (rec (omega arith))
-      go false rec h = absurd (omega (arith, filter-le p l))
-
-  -- a table from a place on is a table
-  drop-tabulate : (f : ℕ → A) (n r : ℕ) → drop r (tabulate f n) ≡ tabulate (λ i. f (r + i)) (n - r)
-  drop-tabulate f n zero = simp (zero-add, sub-zero)
-  drop-tabulate f zero (suc r) = rw zero-sub
-  drop-tabulate f (suc n) (suc r) = simp (suc-add, suc-sub-suc) (drop-tabulate (λ i. f (suc i)) n r)
-
-  -- no more is taken than there is
-  take-least : (l : List A) (k : ℕ) → take (min (length l) k) l ≡ take k l
-  take-least [] k = take-nil (min 0 k) ∙ sym (take-nil k)
-  take-least (x ∷ l) zero = rw min-zero
-  take-least (x ∷ l) (suc k) = rw suc-min-suc (ap (λ (r : List A). x ∷ r) (take-least l k))
-
-module _ {A B : Type 0} where
-  -- what some entries and then some more give
-  joined-append : (f : A → List B) (u v : List A) → joined f (u ++ v) ≡ joined f u ++ joined f v
-  joined-append f [] v = refl
-  joined-append f (a ∷ u) v = rw (joined-append f u v, append-assoc)
-
-  -- a function of what some entries give
-  map-joined : {C : Type 0} (g : B → C) (f : A → List B) (l : List A) → map g (joined f l) ≡ joined (λ a. map g (f a)) l
-  map-joined g f [] = refl
-  map-joined g f (a ∷ l) = rw (map-append, map-joined g f l)
-
-  -- a function of a table
-  map-tabulate : (g : A → B) (f : ℕ → A) (n : ℕ) → map g (tabulate f n) ≡ tabulate (λ i. g (f i)) n
-  map-tabulate g f zero = refl
-  map-tabulate g f (suc n) = ap (λ (r : List B). g (f zero) ∷ r) (map-tabulate g (λ i. f (suc i)) n)
 
 -- ---- room that is listed into
 
