@@ -89,11 +89,11 @@ module _ {m key word i : ℕ} (s : Served m key word i) (h : i ≤ m) {side : �
       (ap₂ (λ (a b : ℕ). a * 4 ^ b) (front-number i m word h (s .set .wordSmall)) (length-digits 4 m word))
       (number-digits-lt four-pos m word (s .set .wordSmall)))
 
-  -- it fits
+  -- its number fits
   pub both-small : followedBy m word i side < 4 ^ 31
   both-small = rw (← both-number) (lt-of-lt-of-le (number-lt 4 both (both-mer .1)) (rw (both-mer .0) (pow-le-pow-right four-pos {j = 31} (omega (arith, s .fits)))))
 
-  -- it is the m letters from there on
+  -- the m-mer at a place is the m letters from there on
   mer-is : (p : ℕ) → p < i → merAt m word i side p ≡ val (take m (drop p both))
   mer-is p k =
       let behind : i + m - m - p ≡ i - p = omega arith in
@@ -101,7 +101,7 @@ module _ {m key word i : ℕ} (s : Served m key word i) (h : i ≤ m) {side : �
       (sym (window-number p m (i + m) (val both) (omega arith))
       ∙ ap (λ (v : Word). val (take m (drop p v))) (digits-number 4 both (both-mer .1) (both-mer .0)))
 
-  -- the first i letters are an antemer exactly if no such m-mer is
+  -- the first i letters are an antemer exactly if no m-mer before the last is at most the word
   pub direct : antemer (keyed (wordOf m key)) ownWord front ≡ not (anyTo i (atMostAt m key word i side))
   direct =
       all-places (above f ownWord) mers []
@@ -140,11 +140,11 @@ module _ {m key word i : ℕ} (s : Served m key word i) (h : i ≤ m) {side : �
           (ap (value f) (at-place q k) ∙ worth (take m (drop q both)) (mer .0) (mer .1) ∙ ap (λ (n : ℕ). bitXor n key) (sym (mer-is q k)))
           (worth ownWord (length-digits 4 m word) (digits-below four-pos m word) ∙ ap (λ (n : ℕ). bitXor n key) (number-digits-lt four-pos m word (s .set .wordSmall)))
 
-  -- one where no m-mer is
+  -- one where no m-mer before the last is at most the word
   pub direct-one : anyTo i (atMostAt m key word i side) ≡ false → _≡_ {A = ℕ} 1 (cond (antemer (keyed (wordOf m key)) ownWord front) 1 0)
   direct-one q = sym (ap (λ (t : Bool). cond {A = ℕ} t 1 0) (direct ∙ ap not q))
 
-  -- none where one is
+  -- none where some m-mer before the last is
   pub direct-none : anyTo i (atMostAt m key word i side) ≡ true → _≡_ {A = ℕ} 0 (cond (antemer (keyed (wordOf m key)) ownWord front) 1 0)
   direct-none q = sym (ap (λ (t : Bool). cond {A = ℕ} t 1 0) (direct ∙ ap not q))
 
@@ -153,6 +153,6 @@ module _ {m key word i : ℕ} (s : Served m key word i) (h : i ≤ m) {side : �
     pub found-at-most : bitXor (merAt m word i side p) key ≤ bitXor word key → atMostAt m key word i side (p - 0) ≡ true
     found-at-most k = rw sub-zero (le-leb (bitXor (merAt m word i side p) key) (bitXor word key) k)
 
-    -- or above
+    -- or above it
     pub found-above : bitXor word key < bitXor (merAt m word i side p) key → atMostAt m key word i side (p - 0) ≡ false
     found-above k = rw sub-zero (lt-leb (bitXor (merAt m word i side p) key) (bitXor word key) k)

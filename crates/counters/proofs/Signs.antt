@@ -134,7 +134,7 @@ letter-sign-of ρ one w hw l letter h k {r} e =
 
 -- ---- how many letters Σ1 has
 
--- how many letters rank above a letter, by its rank: there are three ranks above that of A
+-- how many letters rank above a letter, by its rank, which is at most 3
 ranks-above : {a c : ℕ} → a < 4 → c < 4 → length (filter (λ b. ltb (sum a c) (sum b c)) letters) ≡ 3 - sum a c
 ranks-above {a} {c} ha hc =
     eqb-true (length (filter (λ b. ltb (sum a c) (sum b c)) letters)) (3 - sum a c) (each-letter (test a) (each-letter (λ x. all (test x) letters) refl ha) hc)

@@ -11,12 +11,8 @@ use Rattle.definitions.specs.Words.{Word}
 use Rattle.laws.specs.Orders.{Ranking}
 use Rattle.laws.specs.Places.{anyTo}
 use Rattle.laws.specs.Rules.{isLess, isEqual, own, R, Σ, restrained}
-use Rattle.counters.specs.Settings.{signed, LetterSign}
+use Rattle.counters.specs.Settings.{signed, LetterSign, lowAt}
 use Rattle.counters.proofs.Signs.{signed-less, signed-equal}
-
--- whether R(i+1,j) is below
-abbrev pub lowAt : Ranking → Word → ℕ → ℕ → Bool
-lowAt ρ w i q = true && isLess (R ρ w (suc i) (suc (suc q)))
 
 -- whether R(i,j) is equal and a letter neither lies in Σ(i−j+2) nor is a(i−j+2)
 abbrev pub hinders : Ranking → Word → ℕ → ℕ → ℕ → Bool

@@ -34,6 +34,10 @@ pub record LetterSign (ρ : Ranking) (w : Word) (i letter r : ℕ) : Type 0 wher
   pub same : eqb r 1 ≡ own w i letter
   pub neither : eqb r 0 ≡ not (Σ ρ w i letter || own w i letter)
 
+-- whether R(i+1,q+2) is below, where every m-mer counts
+abbrev pub lowAt : Ranking → Word → ℕ → ℕ → Bool
+lowAt ρ w i q = true && isLess (R ρ w (suc i) (suc (suc q)))
+
 -- whether some R(i+1,j) with 2 ≤ j ≤ i+1 is below
 abbrev pub belowAt : Ranking → Word → ℕ → Bool
-belowAt ρ w i = anyTo i (λ q. true && isLess (R ρ w (suc i) (suc (suc q))))
+belowAt ρ w i = anyTo i (lowAt ρ w i)

@@ -1,4 +1,4 @@
-// The plain counter of antemers, with no table: document 01's rules as they are printed, with R, Σ and T, on the numbers of the key and the word.
+// The plain counter of antemers, with no table: the rules as document 01 states them, with R, Σ and T, on the numbers of the key and the word.
 // It stands beside the worksheet, whose row k - m it equals. Assumes nothing.
 //
 // As in document 01 letters are counted from 1: a1..am is the word, c1..cm the key. Antemers are split by i, the length of the longest prefix
@@ -14,7 +14,7 @@ ghost use Rattle.definitions.specs.Shelves.{antemer};
 ghost use Rattle.definitions.specs.Outcomes.{counterOutcome};
 ghost use Rattle.laws.specs.Orders.{keyRanking};
 ghost use Rattle.laws.specs.Prefixes.{sharing, sharingFrom};
-ghost use Rattle.laws.specs.Rules.{sign as signOf, R, Σ, banned as bannedBy, restrained as restrainedBy, T};
+ghost use Rattle.laws.specs.Rules.{sign as signOf, R, Σ, banned as bannedBy, restrained as mayFollow, T};
 ghost use Rattle.counters.specs.Settings.{signed, LetterSign, belowAt, SetTo, Served};
 ghost use Rattle.counters.specs.Answers.{counted};
 
@@ -72,7 +72,7 @@ fn letter_sign(s: Setting, i: u64, letter: u64) -> u64
     sign(letter ^ key_letter, own ^ key_letter)
 }
 
-// How many letters Σ1 has: there are three ranks above that of A, and one less for each rank that a1 is higher.
+// How many letters Σ1 has: ranks go from 0 to 3, and so many lie above the rank of a1, which is its sum with c1.
 fn first_alphabet(s: Setting) -> u64
     requires { ⌜ SetTo (s .m) (s .key) (s .word) ⌝ }
     ensures { λ r. ⌜ r ≡ length (filter (Σ (keyRanking (wordOf (s .m) (s .key))) (wordOf (s .m) (s .word)) 1) letters) ⌝ }
@@ -115,10 +115,10 @@ fn banned(s: Setting, i: u64) -> bool
 
 // Whether a letter may follow i shared ones: it lies in Σ(i+1), and for every j from 2 to i + 1 with R(i,j) equal it lies in Σ(i-j+2) or is
 // a(i-j+2). With j = i + 1 that is Σ1 and a1.
-fn restrained(s: Setting, i: u64, letter: u64) -> bool
+fn may_follow(s: Setting, i: u64, letter: u64) -> bool
     requires { ⌜ SetTo (s .m) (s .key) (s .word) ⌝ }
     requires { ⌜ (i < s .m) × (letter < 4) ⌝ }
-    ensures { λ r. ⌜ r ≡ restrainedBy (keyRanking (wordOf (s .m) (s .key))) (wordOf (s .m) (s .word)) (λ j. true) i letter ⌝ }
+    ensures { λ r. ⌜ r ≡ mayFollow (keyRanking (wordOf (s .m) (s .key))) (wordOf (s .m) (s .word)) (λ j. true) i letter ⌝ }
 {
     if letter_sign(s, i + 1, letter) != ABOVE {
         return false;
@@ -205,7 +205,7 @@ fn one_prefix(s: Setting, i: u64, n: u64) -> u64
     let mut sum: u64 = 0;
     let mut letter: u64 = 0;
     while letter < 4 {
-        if restrained(s, i, letter) {
+        if may_follow(s, i, letter) {
             let t = least_tied(s, i, letter);
             sum += all_prefixes(s, i + 2 - t, n + 1 - t);
         }

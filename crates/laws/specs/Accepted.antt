@@ -15,7 +15,7 @@ use Rattle.definitions.specs.Words.{Word, word, isLetter}
 use Rattle.definitions.specs.Vigemins.{Form, keyed, windows}
 use Rattle.definitions.specs.Shelves.{size}
 use Rattle.definitions.specs.Refusals.{Ground, refusal, badKey, badWord, badSequence, badLetter, badRoom, badStart, badCounter, firstBad, placeBeside}
-use Rattle.definitions.specs.Outcomes.{packGrounds, unpackGrounds, orderGrounds, shelfGrounds, counterGrounds, pageGrounds, scanGrounds, packAnswer, unpackAnswer, sizeAnswer, sizeOutcome, worksheetAnswer, counterAnswer, pageAnswer, scanAnswer, asBytes, scanBytesOutcome}
+use Rattle.definitions.specs.Outcomes.{packGrounds, unpackGrounds, orderGrounds, shelfGrounds, counterGrounds, pageGrounds, scanGrounds, packAnswer, unpackAnswer, sizeAnswer, sizeOutcome, worksheetAnswer, counterAnswer, scanAnswer, asBytes, scanBytesOutcome}
 use Rattle.laws.specs.Numbers.{firstBad-all}
 use Rattle.laws.specs.Refusals.{refusal-unmet, unmet-refusal, refusal-append, refusal-most}
 
@@ -116,6 +116,11 @@ accepted-word {n} {k} {m} {key} {x} a =
 
 -- ---- the plain counter (k, m, key, word)
 
+-- where a shelf's grounds come first, the refusal is theirs or, where that is 0, that of the others
+pub shelf-refusal : (k m key w : ℕ) (others : List Ground) {r : ℕ} → r ≡ refusal (shelfGrounds k m key w)
+    → refusal (shelfGrounds k m key w ++ others) ≡ cond (eqb r 0) (refusal others) r
+shelf-refusal k m key w others e = refusal-append (shelfGrounds k m key w) others (omega arith) (sym e)
+
 -- what the plain counter accepts: what a shelf takes, and k − m up to 10
 pub record CounterAccepted (k m key w : ℕ) : Type 0 where
   pub shelf : ShelfAccepted k m key w
@@ -213,12 +218,6 @@ pub counterAnswer-refusal : (r : ℕ) (f : Form) (a : ℕ) (w : Word) → counte
 unfolding counterAnswer
 counterAnswer-refusal zero f a w = refl
 counterAnswer-refusal (suc r) f a w = refl
-
--- of a page
-pub pageAnswer-refusal : (r : ℕ) (f : Form) (k : ℕ) (w : Word) (start : ℕ) (room : List ℕ) → pageAnswer r f k w start room .refusal ≡ r
-unfolding pageAnswer
-pageAnswer-refusal zero f k w start room = refl
-pageAnswer-refusal (suc r) f k w start room = refl
 
 -- of a scan
 pub scanAnswer-refusal : (r : ℕ) (entries : List ℕ → List ℕ) (f : Form) (k m : ℕ) (s room : List ℕ) → scanAnswer r entries f k m s room .refusal ≡ r

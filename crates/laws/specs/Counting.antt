@@ -14,7 +14,7 @@ use lib.ListN.{length, getD, take, drop}
 use Rattle.definitions.specs.Lists.{put, filter, tabulate, total}
 use Rattle.definitions.specs.Words.{Word, Letters, Mer, letters, spread, words, same, val}
 use Rattle.laws.specs.Numbers.{each-letter, letters-at}
-use Rattle.laws.specs.Filters.{at-mem, filter-sound, filter-complete, filter-agree, filter-every, filter-none, filter-le, length-either, filter-fixed, length-cond, length-begun, filter-split}
+use Rattle.laws.specs.Filters.{map-tabulate, at-mem, filter-sound, filter-complete, filter-agree, filter-every, filter-none, filter-le, length-either, filter-fixed, length-cond, length-begun, filter-split}
 
 -- ---- lists
 
@@ -33,10 +33,6 @@ module _ {A B : Type 0} where
   pub map-agree : (f g : A → B) (l : List A) → ((x : A) → List·Memᴰ x l → f x ≡ g x) → map f l ≡ map g l
   map-agree f g [] h = refl
   map-agree f g (a ∷ l) h = ap₂ (λ (b : B) (r : List B). b ∷ r) (h a (List·Memᴰ·head refl)) (map-agree f g l (λ x m. h x (List·Memᴰ·tail m)))
-
-  map-tabulate : (g : A → B) (f : ℕ → A) (n : ℕ) → map g (tabulate f n) ≡ tabulate (λ i. g (f i)) n
-  map-tabulate g f zero = refl
-  map-tabulate g f (suc n) = ap (λ (r : List B). g (f zero) ∷ r) (map-tabulate g (λ i. f (suc i)) n)
 
 -- ---- the words of n letters
 

@@ -13,7 +13,7 @@ use Rattle.definitions.specs.Shelves.{shelf, page}
 use Rattle.definitions.specs.Outcomes.{Paged, pageOutcome}
 use Rattle.laws.specs.Filters.{take-least, take-map, drop-map}
 use Rattle.laws.specs.Rooms.{overTo, length-overTo, overTo-sets, overTo-all}
-use Rattle.laws.specs.Listings.{page-outcome}
+use Rattle.laws.specs.Listings.{page-outcome, page-written}
 use Rattle.listers.specs.Answers.{ListReady}
 
 module _ {A : Type 0} where
@@ -35,6 +35,7 @@ pub record Taking (k m key w size : ℕ) (old room : List ℕ) (at : ℕ) : Type
   pub holds : room ≡ overTo at (map val (shelf (keyed (wordOf m key)) k (wordOf m w))) old
 
 module _ {k m key w each size : ℕ} {old : List ℕ} (q : ListReady k m key w each size old) where
+  -- the numbers of the shelf's k-mers
   abbrev numbers : List ℕ
   numbers = map val (shelf (keyed (wordOf m key)) k (wordOf m w))
 
@@ -57,9 +58,11 @@ module _ {k m key w each size : ℕ} {old : List ℕ} (q : ListReady k m key w e
 
     module _ {n refusal written : ℕ} {after : List ℕ} (h : at < size) (e : n ≡ min each (length room - at))
         (p : record { refusal = refusal; written = written; room = after } ≡ pageOutcome k m key w at (take n (drop at room))) where
+      -- the room that the page was lent
       abbrev part : List ℕ
       part = take n (drop at room)
 
+      -- the numbers of the page
       abbrev new : List ℕ
       new = map val (page (keyed (wordOf m key)) k (wordOf m w) at (length part))
 
@@ -74,8 +77,13 @@ module _ {k m key w each size : ℕ} {old : List ℕ} (q : ListReady k m key w e
           ∙ ap (take (length part)) (sym (drop-map val at (shelf (keyed (wordOf m key)) k (wordOf m w))))
 
       -- so many it wrote
-      new-long : length new ≡ min (length part) (size - at)
-      new-long = ap length new-is ∙ length-take (length part) (drop at numbers) ∙ ap (min (length part)) (length-drop at numbers ∙ ap (λ (i : ℕ). i - at) numbers-long)
+      written-is : written ≡ min (length part) (size - at)
+      written-is =
+          ap (λ (o : Paged). o .written) p ∙ page-written (q .accepted) at part (omega (arith, q .sized)) ∙ ap (λ (i : ℕ). min (length part) (i - at)) (sym (q .sized))
+
+      -- they are the numbers of the page
+      written-new : written ≡ length new
+      written-new = ap (λ (o : Paged). o .written) answered
 
       -- its room had so many entries
       part-long : length part ≡ n
@@ -83,16 +91,13 @@ module _ {k m key w each size : ℕ} {old : List ℕ} (q : ListReady k m key w e
 
       -- it wrote some, and not too many
       pub taking-some : (0 < written) × (at + written ≤ size)
-      taking-some =
-          let w-is : written ≡ length new = ap (λ (o : Paged). o .written) answered in
-          omega (arith, w-is, new-long, part-long, e, taking-long, q .takes, q .some)
+      taking-some = omega (arith, written-is, part-long, e, taking-long, q .takes, q .some)
 
       -- one more page is written
       pub taking-more : Taking k m key w size old (take at room ++ (after ++ drop n (drop at room))) (at + written)
       taking-more =
-          let w-is : written ≡ length new = ap (λ (o : Paged). o .written) answered in
           let a-is : after ≡ over new part = ap (λ (o : Paged). o .room) answered in
-          let fit : length new ≤ length part = omega (arith, new-long) in
+          let fit : length new ≤ length part = omega (arith, written-new, written-is) in
           let inside : at + length new ≤ length room = omega (arith, part-long, e, fit, taking-long, q .takes) in
           let least : length new ≡ min (length (drop at numbers)) (length part) = omega (arith, ap length new-is ∙ length-take (length part) (drop at numbers)) in
           let same : take (length new) (drop at numbers) ≡ new =
@@ -103,6 +108,6 @@ module _ {k m key w each size : ℕ} {old : List ℕ} (q : ListReady k m key w e
                 ap (λ (l : List ℕ). take at room ++ (l ++ drop n (drop at room))) a-is
                 ∙ part-over room new at n fit
                 ∙ sym (sets-eq new room at inside)
-                ∙ overTo-sets numbers old at new (t .holds) same (omega (arith, numbers-long, new-long)) (omega (arith, inside, taking-long))
-                ∙ ap (λ (i : ℕ). overTo (at + i) numbers old) (sym w-is);
+                ∙ overTo-sets numbers old at new (t .holds) same (omega (arith, numbers-long, written-new, written-is)) (omega (arith, inside, taking-long))
+                ∙ ap (λ (i : ℕ). overTo (at + i) numbers old) (sym written-new);
           }

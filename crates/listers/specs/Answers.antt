@@ -1,16 +1,14 @@
 -- The outcome of listing a whole shelf by pages, and what the code answered as such.
 -- Assumes nothing.
 use Prim.Native.Nat.{ℕ, zero, suc, _≤_, min}
-use mathlib.Core.Bool.{_||_}
 use mathlib.Core.List.{List, [], _∷_, _++_, map}
 use mathlib.Core.Path.{_≡_, refl}
-use lib.Dec.{ltb}
 use lib.ListN.{length, replicate}
 use Rattle.definitions.specs.Lists.{over}
 use Rattle.definitions.specs.Words.{Word, val, word as wordOf}
 use Rattle.definitions.specs.Vigemins.{Form, keyed}
 use Rattle.definitions.specs.Shelves.{shelf, size}
-use Rattle.definitions.specs.Refusals.{Ground, refusal, _when_}
+use Rattle.definitions.specs.Refusals.{Ground, refusal, badRoom}
 use Rattle.definitions.specs.Outcomes.{shelfGrounds}
 use Rattle.laws.specs.Accepted.{ShelfAccepted}
 use Rattle.listers.specs.declared.Listed as answer
@@ -21,13 +19,13 @@ pub record Listed : Type 0 where
   pub written : ℕ
   pub room : List ℕ
 
--- 7: the room does not take the shelf, or a page takes none of a shelf that has some
-abbrev pub badPages : ℕ → ℕ → ℕ → Ground
-badPages size each room = 7 when (ltb room size || ltb each (min 1 size))
+-- 7 of a listing: the room must take the shelf, and a page's room one k-mer of a shelf that has any
+abbrev pub roomGrounds : ℕ → ℕ → ℕ → List Ground
+roomGrounds size each room = badRoom size room ∷ badRoom (min 1 size) each ∷ []
 
 -- listing tests 1 to 4, then 7
 abbrev pub listGrounds : ℕ → ℕ → ℕ → ℕ → ℕ → List ℕ → List Ground
-listGrounds k m key w each room = shelfGrounds k m key w ++ (badPages (size (keyed (wordOf m key)) k (wordOf m w)) each (length room) ∷ [])
+listGrounds k m key w each room = shelfGrounds k m key w ++ roomGrounds (size (keyed (wordOf m key)) k (wordOf m w)) each (length room)
 
 -- its answer under a number of refusal: the whole shelf, whatever the pages' room
 unfoldable pub listAnswer : ℕ → Form → ℕ → Word → List ℕ → Listed

@@ -26,7 +26,7 @@ use Rattle.laws.specs.Tables.{postmerOk, shelfOk, shelfStep, shelfEnd, shelf-ta
 use Rattle.laws.specs.Bans.{postmer-ban}
 use Rattle.words.specs.Powers.{PowersAre}
 use Rattle.states.specs.Grids.{grid-at, length-grid}
-use Rattle.states.specs.Tables.{nextAt, banAt, next-entry, ban-entry}
+use Rattle.states.specs.Tables.{nextAt, next-entry, ban-entry}
 use Rattle.shelves.specs.Descents.{allowed, leads, met, waysFrom, completing, Live, NextsSmall, MovesOf, Tables, WaysTo, under, Listed, Descending, ShelfOf}
 
 -- ---- the tables
@@ -79,8 +79,6 @@ module _ {ρ : Ranking} {w : Word} {m word : ℕ} {nexts bans moves : List ℕ} 
   tables =
       record {
         few = s .letters .few;
-        longMoves = v .long;
-        longBan = ap length (s .links .bans) ∙ length-grid (banAt ρ w);
         lead = λ q b h k. lead q b k h;
       }
     where

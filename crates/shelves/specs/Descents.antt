@@ -66,8 +66,6 @@ pub record MovesOf (m : ℕ) (next moves : List ℕ) : Type 0 where
 -- tables that lead from each state of a word of m letters to another
 pub record Tables (m : ℕ) (moves ban : List ℕ) : Type 0 where
   pub few : m ≤ 31
-  pub longMoves : length moves ≡ 256
-  pub longBan : length ban ≡ 128
   pub lead : (s b : ℕ) → Live m s → b < 4 → Live m (leads moves s b)
 
 -- a table of ways of which the first n rows are right: row r has the ways by r letters, that of state s at place 64·r+s

@@ -25,7 +25,7 @@ use Rattle.counters.proofs.+all_prefixes+one_prefix.Lts-one_prefix as o
 use Rattle.counters.proofs.banned.Reads as banned-reads
 use Rattle.counters.proofs.first_alphabet.Reads as first-alphabet-reads
 use Rattle.counters.proofs.least_tied.Reads as least-tied-reads
-use Rattle.counters.proofs.restrained.Reads as restrained-reads
+use Rattle.counters.proofs.may_follow.Reads as may-follow-reads
 use Rattle.counters.proofs.whole.Reads as whole-reads
 use Rattle.words.proofs.lesser.Reads as lesser-reads
 use Rattle.counters.proofs.+all_prefixes+one_prefix.{statement}
@@ -66,8 +66,8 @@ one-prefix-calls t = (
   first-alphabet-reads.Learnt,
   all-prefixes-below t,
   all-prefixes.Post,
-  restrained-reads.Asked,
-  restrained-reads.Learnt,
+  may-follow-reads.Asked,
+  may-follow-reads.Learnt,
   least-tied-reads.Asked,
   least-tied-reads.Learnt,
 )
@@ -181,8 +181,8 @@ shorter : (t : ℕ) (c : one-prefix-lts.After-least-tied (one-prefix-calls t) (o
     (j ≤ args .i + 2) × (j ≤ args .n + 1) × (args .n + 1 - j < args .n)
 shorter t c = T-between _ _ (c .before .before .before .before .loop .letter) (c .least-tied .ensures) (inside t (c .before .before .before .before .before) .1)
 
-one-prefix-restrained-requires : (t : ℕ) → one-prefix-lts.Need-restrained-requires (one-prefix-calls t) (one-prefix-at t) one-prefix.Post one-prefix-Inv-loop one-prefix-μ-loop
-one-prefix-restrained-requires t c κs = (c .before .before .before .before .before .before .before .before .pre .1 .0 .set, (inside t (c .before .before) .0, letter-lt t c))
+one-prefix-may-follow-requires : (t : ℕ) → one-prefix-lts.Need-may-follow-requires (one-prefix-calls t) (one-prefix-at t) one-prefix.Post one-prefix-Inv-loop one-prefix-μ-loop
+one-prefix-may-follow-requires t c κs = (c .before .before .before .before .before .before .before .before .pre .1 .0 .set, (inside t (c .before .before) .0, letter-lt t c))
 
 one-prefix-least-tied-requires : (t : ℕ) → one-prefix-lts.Need-least-tied-requires (one-prefix-calls t) (one-prefix-at t) one-prefix.Post one-prefix-Inv-loop one-prefix-μ-loop
 one-prefix-least-tied-requires t c κs = (c .before .before .before .before .before .before .before .before .before .before .pre .1 .0 .set, (inside t (c .before .before .before .before) .0, letter-lt t (c .before .before)))
@@ -222,7 +222,7 @@ one-prefix-loop-again t c =
     let served = c .before .before .before .before .before .before .before .before .before .before .pre .1 .0 in
     let at = c .before .before .before .loop in
     let small = letter-lt t (c .before .before) in
-    let asked = c .before .restrained .ensures in
+    let asked = c .before .may-follow .ensures in
     ⊎-elim
     (λ w. rw (w .3) (gathered-more (at .inv) small (served .short) (inside t (c .before .before .before .before) .1) (sym (w .0 .taken) ∙ asked) (w .1 .ensures) (w .2 .ensures)))
     (λ w. rw (w .1) (gathered-skip (at .inv) small (sym (w .0 .left) ∙ asked)))
@@ -271,7 +271,7 @@ pub +all-prefixes+one-prefix-spec : {M : Type 1} → statement M
     (one-prefix-mul-result t)
     (one-prefix-returns-4 t)
     (one-prefix-loop-holds t)
-    (one-prefix-restrained-requires t)
+    (one-prefix-may-follow-requires t)
     (one-prefix-least-tied-requires t)
     (one-prefix-add-all-prefixes t)
     (one-prefix-sub-all-prefixes-2 t)

@@ -6,14 +6,12 @@ use mathlib.Core.List.{[], _∷_}
 use mathlib.Core.Path.{_≡_, refl, sym, ap, _∙_}
 use native.Mathlib.Omega.{arith}
 use borrow.Author.Tests.{ne-eqb, lt-ltb}
-use lib.Dec.{eqb}
 use Rattle.definitions.specs.Words.{Word, word as wordOf}
 use Rattle.definitions.specs.Vigemins.{Form, keyed}
 use Rattle.definitions.specs.Shelves.{antemer}
 use Rattle.definitions.specs.Refusals.{refusal, badCounter}
-use Rattle.definitions.specs.Outcomes.{shelfGrounds, counterGrounds, counterAnswer, counterOutcome}
-use Rattle.laws.specs.Refusals.{refusal-append}
-use Rattle.laws.specs.Accepted.{ShelfAccepted, word-accepted, accepted-counter}
+use Rattle.definitions.specs.Outcomes.{shelfGrounds, counterAnswer, counterOutcome}
+use Rattle.laws.specs.Accepted.{ShelfAccepted, word-accepted, accepted-counter, shelf-refusal}
 use Rattle.laws.specs.Prefixes.{sharingFrom, sharing-all}
 use Rattle.counters.specs.Settings.{Served}
 use Rattle.counters.proofs.antemers.Statement.{statement}
@@ -26,17 +24,13 @@ refused zero h f a w = absurd (h refl)
 refused (suc r) h f a w = refl
 
 module _ (k m key word : ℕ) where
-  -- the counter refuses as the shelf does, and then by 9
-  counter-refusal : {r : ℕ} → r ≡ refusal (shelfGrounds k m key word) → refusal (counterGrounds k m key word) ≡ cond (eqb r 0) (refusal (badCounter k m ∷ [])) r
-  counter-refusal e = refusal-append (shelfGrounds k m key word) (badCounter k m ∷ []) (omega arith) (sym e)
-
   -- a refusal of the shelf
   refused-shelf : {r : ℕ} → r ≡ refusal (shelfGrounds k m key word) → (r ≡ 0 → ⊥) → record { refusal = r; count = 0 } ≡ counterOutcome k m key word
   unfolding counterOutcome
   refused-shelf {r} e h =
       refused r h (keyed (wordOf m key)) (k - m) (wordOf m word)
       ∙ ap (λ (n : ℕ). counterAnswer n (keyed (wordOf m key)) (k - m) (wordOf m word))
-      (sym (counter-refusal e ∙ ap (λ (t : Bool). cond t (refusal (badCounter k m ∷ [])) r) (ne-eqb r 0 h)))
+      (sym (shelf-refusal k m key word (badCounter k m ∷ []) e ∙ ap (λ (t : Bool). cond t (refusal (badCounter k m ∷ [])) r) (ne-eqb r 0 h)))
 
   -- a length above ten
   refused-length : refusal (shelfGrounds k m key word) ≡ 0 → 10 < k - m → record { refusal = 9; count = 0 } ≡ counterOutcome k m key word
@@ -44,7 +38,7 @@ module _ (k m key word : ℕ) where
   refused-length e h =
       refused 9 (omega arith) (keyed (wordOf m key)) (k - m) (wordOf m word)
       ∙ ap (λ (n : ℕ). counterAnswer n (keyed (wordOf m key)) (k - m) (wordOf m word))
-      (sym (counter-refusal (sym e) ∙ ap (λ (t : Bool). cond t 9 0) (lt-ltb 10 (k - m) h)))
+      (sym (shelf-refusal k m key word (badCounter k m ∷ []) (sym e) ∙ ap (λ (t : Bool). cond t 9 0) (lt-ltb 10 (k - m) h)))
 
   -- else the antemers are counted
   answered : {n : ℕ} → refusal (shelfGrounds k m key word) ≡ 0 → k - m ≤ 10 → n ≡ sharingFrom (wordOf m word) (antemer (keyed (wordOf m key)) (wordOf m word)) 0 (k - m)

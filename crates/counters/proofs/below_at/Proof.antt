@@ -7,7 +7,8 @@ use borrow.Author.Tests.{eq-eqb, ne-eqb}
 use Rattle.definitions.specs.Words.{word as wordOf}
 use Rattle.laws.specs.Orders.{keyRanking}
 use Rattle.counters.proofs.Searches.{Searched, searched-first, searched-more, searched-found, searched-none}
-use Rattle.counters.proofs.Tests.{lowAt, low-tested}
+use Rattle.counters.specs.Settings.{lowAt}
+use Rattle.counters.proofs.Tests.{low-tested}
 use Rattle.counters.proofs.below_at.Statement.{statement}
 use Rattle.counters.proofs.below_at.Tie as tie
 

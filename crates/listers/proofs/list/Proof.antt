@@ -2,12 +2,12 @@
 -- Assumes nothing.
 use Prim.Native.Nat.{ℕ, zero, suc, min}
 use mathlib.Core.Bool.{Bool, true, false, cond, _||_}
-use mathlib.Core.List.{List, [], _∷_}
+use mathlib.Core.List.{List}
 use mathlib.Core.Path.{_≡_, refl, sym, ap, ap₂, _∙_}
 use native.Mathlib.Omega.{arith}
 use borrow.Author.Needs.{needs}
 use borrow.Author.Tests.{ltb-false, ne-eqb}
-use lib.Dec.{ltb, eqb}
+use lib.Dec.{ltb}
 use lib.ListN.{length}
 use Rattle.definitions.specs.Words.{Word, word as wordOf}
 use Rattle.definitions.specs.Vigemins.{Form, keyed}
@@ -15,9 +15,8 @@ use Rattle.definitions.specs.Shelves.{size as sizeOf}
 use Rattle.definitions.specs.Refusals.{refusal}
 use Rattle.definitions.specs.Outcomes.{Counted, shelfGrounds, sizeAnswer, sizeOutcome}
 use Rattle.laws.specs.Tests.{contrary}
-use Rattle.laws.specs.Refusals.{refusal-append}
-use Rattle.laws.specs.Accepted.{word-accepted, sizeAnswer-refusal}
-use Rattle.listers.specs.Answers.{badPages, listGrounds, listAnswer, listOutcome}
+use Rattle.laws.specs.Accepted.{word-accepted, shelf-refusal, sizeAnswer-refusal}
+use Rattle.listers.specs.Answers.{roomGrounds, listGrounds, listAnswer, listOutcome}
 use Rattle.listers.proofs.list.Statement.{statement}
 use Rattle.listers.proofs.list.Tie as tie
 
@@ -27,11 +26,10 @@ unfolding listAnswer
 refused zero h f k w room = absurd (h refl)
 refused (suc r) h f k w room = refl
 
--- the refusal is that of the shelf or, where it is 0, 7 or none
-refusing : (k m key w each : ℕ) (room : List ℕ) {r : ℕ} → r ≡ refusal (shelfGrounds k m key w)
-    → refusal (listGrounds k m key w each room) ≡ cond (eqb r 0) (refusal (badPages (sizeOf (keyed (wordOf m key)) k (wordOf m w)) each (length room) ∷ [])) r
-refusing k m key w each room e =
-    refusal-append (shelfGrounds k m key w) (badPages (sizeOf (keyed (wordOf m key)) k (wordOf m w)) each (length room) ∷ []) (omega arith) (sym e)
+-- two grounds of one number are one ground
+one-ground : (x y : Bool) (n : ℕ) → cond x n (cond y n 0) ≡ cond (x || y) n 0
+one-ground true y n = refl
+one-ground false y n = refl
 
 -- the size that is answered where nothing is refused
 size-count : (k m key w : ℕ) → refusal (shelfGrounds k m key w) ≡ 0 → sizeOutcome k m key w .count ≡ sizeOf (keyed (wordOf m key)) k (wordOf m w)
@@ -53,7 +51,7 @@ returns c =
     let r = c .before .before .size .result .refusal in
     let some : (r ≡ 0) → ⊥ = λ e. omega arith in
     let is : refusal (listGrounds (args .k) (args .m) (args .key) (args .word) (args .each) (args .room .now)) ≡ r =
-    refusing (args .k) (args .m) (args .key) (args .word) (args .each) (args .room .now) (given (c .before .before)) ∙ rw (ne-eqb r 0 some) in
+    shelf-refusal (args .k) (args .m) (args .key) (args .word) (roomGrounds (sizeOf (keyed (wordOf (args .m) (args .key))) (args .k) (wordOf (args .m) (args .word))) (args .each) (length (args .room .now))) (given (c .before .before)) ∙ rw (ne-eqb r 0 some) in
     refused r some (keyed (wordOf (args .m) (args .key))) (args .k) (wordOf (args .m) (args .word)) (args .room .now)
     ∙ ap (λ (n : ℕ). listAnswer n (keyed (wordOf (args .m) (args .key))) (args .k) (wordOf (args .m) (args .word)) (args .room .now)) (sym is)
 
@@ -74,7 +72,10 @@ counted c =
 tested : (k m key w each : ℕ) (room : List ℕ) {count least : ℕ} {t : Bool} → refusal (shelfGrounds k m key w) ≡ 0 → count ≡ sizeOf (keyed (wordOf m key)) k (wordOf m w)
     → least ≡ min 1 count → (ltb (length room) count || ltb each least) ≡ t → refusal (listGrounds k m key w each room) ≡ cond t 7 0
 tested k m key w each room z e l q =
-    refusing k m key w each room (sym z) ∙ ap (λ (t : Bool). cond t 7 0) (sym (ap₂ (λ (x y : ℕ). ltb (length room) x || ltb each y) e (l ∙ ap (min 1) e)) ∙ q)
+    let size = sizeOf (keyed (wordOf m key)) k (wordOf m w) in
+    shelf-refusal k m key w (roomGrounds size each (length room)) (sym z)
+    ∙ one-ground (ltb (length room) size) (ltb each (min 1 size)) 7
+    ∙ ap (λ (t : Bool). cond t 7 0) (sym (ap₂ (λ (x y : ℕ). ltb (length room) x || ltb each y) e (l ∙ ap (min 1) e)) ∙ q)
 
 -- neither of two tests holds
 neither : (x y : Bool) → (x || y) ≡ false → (x ≡ false) × (y ≡ false)

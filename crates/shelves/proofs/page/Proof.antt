@@ -2,22 +2,19 @@
 -- word under the key, and the page by them is the page.
 -- Assumes nothing.
 use Prim.Native.Nat.{ℕ, zero, suc}
-use mathlib.Core.Bool.{cond}
 use mathlib.Core.List.{List, [], _∷_}
 use mathlib.Core.Path.{_≡_, refl, sym, ap, _∙_}
 use native.Mathlib.Omega.{arith}
 use borrow.Author.Needs.{needs}
 use borrow.Author.Tests.{ne-eqb}
-use lib.Dec.{eqb}
 use Rattle.definitions.specs.Words.{Word, word as wordOf}
 use Rattle.definitions.specs.Vigemins.{Form, keyed}
 use Rattle.definitions.specs.Shelves.{size}
-use Rattle.definitions.specs.Refusals.{refusal, badStart}
+use Rattle.definitions.specs.Refusals.{Ground, refusal, badStart}
 use Rattle.definitions.specs.Outcomes.{shelfGrounds, pageGrounds, pageAnswer, pageOutcome}
 use Rattle.laws.specs.Orders.{keyRanking, keyed-ranked}
 use Rattle.laws.specs.Numbers.{four-pos, number-digits-lt}
-use Rattle.laws.specs.Refusals.{refusal-append}
-use Rattle.laws.specs.Accepted.{word-accepted}
+use Rattle.laws.specs.Accepted.{word-accepted, shelf-refusal}
 use Rattle.states.specs.Answers as prepare
 use Rattle.shelves.specs.Descents.{ShelfOf}
 use Rattle.shelves.proofs.page.Statement.{statement}
@@ -39,11 +36,9 @@ given c =
     let args = c .before .before .args in
     ap (λ (o : prepare.Prepared). o .refusal) (c .prepare .ensures) ∙ prepare.prepare-refusal (args .k) (args .m) (args .key) (args .word)
 
--- the page's refusal is that or, where it is 0, 8 or none
-refusing : (k m key word start : ℕ) {r : ℕ} → r ≡ refusal (shelfGrounds k m key word)
-    → refusal (pageGrounds k m key word start) ≡ cond (eqb r 0) (refusal (badStart (size (keyed (wordOf m key)) k (wordOf m word)) start ∷ [])) r
-refusing k m key word start e =
-    refusal-append (shelfGrounds k m key word) (badStart (size (keyed (wordOf m key)) k (wordOf m word)) start ∷ []) (omega arith) (sym e)
+-- what a page tests after the shelf's grounds
+abbrev starts : (k m key word start : ℕ) → List Ground
+starts k m key word start = badStart (size (keyed (wordOf m key)) k (wordOf m word)) start ∷ []
 
 returns : tie.Need-returns
 unfolding pageOutcome
@@ -51,7 +46,7 @@ returns c =
     let args = c .before .before .before .before .args in
     let r = c .before .before .prepare .result .refusal in
     let some : (r ≡ 0) → ⊥ = λ e. omega arith in
-    let is : refusal (pageGrounds (args .k) (args .m) (args .key) (args .word) (args .start)) ≡ r = refusing (args .k) (args .m) (args .key) (args .word) (args .start) (given (c .before .before)) ∙ rw (ne-eqb r 0 some) in
+    let is : refusal (pageGrounds (args .k) (args .m) (args .key) (args .word) (args .start)) ≡ r = shelf-refusal (args .k) (args .m) (args .key) (args .word) (starts (args .k) (args .m) (args .key) (args .word) (args .start)) (given (c .before .before)) ∙ rw (ne-eqb r 0 some) in
     refused r some (keyed (wordOf (args .m) (args .key))) (args .k) (wordOf (args .m) (args .word)) (args .start) (args .room .now)
     ∙ ap (λ (n : ℕ). pageAnswer n (keyed (wordOf (args .m) (args .key))) (args .k) (wordOf (args .m) (args .word)) (args .start) (args .room .now)) (sym is)
 
@@ -97,7 +92,7 @@ returns-2 c =
     let given-page = c .before .before .page-by .ensures (keyRanking key) word (stated start) in
     given-page
     ∙ ap (λ (f : Form). pageAnswer (refusal (badStart (size f (args .k) word) (args .start) ∷ [])) f (args .k) word (args .start) (args .room .now)) (sym (keyed-ranked key))
-    ∙ ap (λ (n : ℕ). pageAnswer n (keyed key) (args .k) word (args .start) (args .room .now)) (sym (refusing (args .k) (args .m) (args .key) (args .word) (args .start) (sym (none start))))
+    ∙ ap (λ (n : ℕ). pageAnswer n (keyed key) (args .k) word (args .start) (args .room .now)) (sym (shelf-refusal (args .k) (args .m) (args .key) (args .word) (starts (args .k) (args .m) (args .key) (args .word) (args .start)) (sym (none start))))
 
 pub page-spec : {M : Type 1} → statement M
 page-spec = tie.close (tie.spec prepare-requires returns page-by-requires same-length returns-2)

@@ -1,4 +1,4 @@
--- `counters::restrained` meets its contract. The loop's invariant: at no j that it passed is the letter hindered, so that R(i,j) is equal and the
+-- `counters::may_follow` meets its contract. The loop's invariant: at no j that it passed is the letter hindered, so that R(i,j) is equal and the
 -- letter neither lies in Σ(i-j+2) nor is a(i-j+2). The measure is how many are left.
 -- Assumes nothing.
 use Prim.Native.Nat.{suc, _-_}
@@ -10,8 +10,8 @@ use Rattle.definitions.specs.Words.{word as wordOf}
 use Rattle.laws.specs.Orders.{keyRanking}
 use Rattle.counters.proofs.Searches.{Searched, searched-first, searched-more, searched-found, searched-none}
 use Rattle.counters.proofs.Tests.{hinders, hinders-tested, not-special, not-hindered, hindered}
-use Rattle.counters.proofs.restrained.Statement.{statement}
-use Rattle.counters.proofs.restrained.Tie as tie
+use Rattle.counters.proofs.may_follow.Statement.{statement}
+use Rattle.counters.proofs.may_follow.Tie as tie
 
 abbrev Inv-loop : tie.InvT-loop
 Inv-loop s i letter j₀ j = Searched 2 (hinders (keyRanking (wordOf (s .m) (s .key))) (wordOf (s .m) (s .word)) i letter) i j
@@ -79,8 +79,8 @@ returns-3 c =
     let args = first .before .before .args in
     not-hindered _ _ (args .i) (args .letter) (first .before .letter-sign .ensures) (first .if1 .left) (searched-none (c .before .loop .inv) (omega arith))
 
-pub restrained-spec : {M : Type 1} → statement M
-restrained-spec =
+pub may-follow-spec : {M : Type 1} → statement M
+may-follow-spec =
     tie.close
     (tie.spec
     Inv-loop
