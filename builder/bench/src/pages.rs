@@ -18,7 +18,7 @@ struct Contender {
 mod foreign {
     extern "C" {
         fn trial_page(k: u64, m: u64, key: u64, word: u64, start: u64, room: *mut u64, room_len: usize) -> u64;
-        fn trial_list(k: u64, m: u64, key: u64, word: u64, page_room: u64, room: *mut u64, room_len: usize) -> u64;
+        fn trial_list(k: u64, m: u64, key: u64, word: u64, each: u64, room: *mut u64, room_len: usize) -> u64;
     }
 
     pub fn page(k: u64, m: u64, key: u64, word: u64, start: u64, room: &mut [u64]) -> u64 {
@@ -26,9 +26,9 @@ mod foreign {
         unsafe { trial_page(k, m, key, word, start, room.as_mut_ptr(), room.len()) }
     }
 
-    pub fn list(k: u64, m: u64, key: u64, word: u64, page_room: u64, room: &mut [u64]) -> u64 {
+    pub fn list(k: u64, m: u64, key: u64, word: u64, each: u64, room: &mut [u64]) -> u64 {
         // SAFETY: the pointer is that of a slice, with its length.
-        unsafe { trial_list(k, m, key, word, page_room, room.as_mut_ptr(), room.len()) }
+        unsafe { trial_list(k, m, key, word, each, room.as_mut_ptr(), room.len()) }
     }
 }
 
@@ -124,8 +124,8 @@ fn check_whole() -> u64 {
     for _ in 0..300 {
         let k = 1 + numbers.below(6);
         let (m, key, word) = loop {
-            let (any, m, key, word) = counts::drawn(&mut numbers);
-            if any >= k && m <= k {
+            let (_, m, key, word) = counts::drawn(&mut numbers);
+            if m <= k {
                 break (m, key, word);
             }
         };
@@ -160,7 +160,7 @@ fn check_drawn() -> u64 {
         shelves += 1;
         let drawn = (0..20).map(|_| numbers.below(size)).collect::<Vec<u64>>();
         for start in [0, size - 1].into_iter().chain(drawn) {
-            let room_len = numbers.below(9) as usize;
+            let room_len = 1 + numbers.below(8) as usize;
             let end = size.min(start + room_len as u64);
             let kmers: Vec<u64> = (start..end).map(|place| shelf.kmer(place)).collect();
             passed += accepted("drawn", at(start), room_len, &kmers);
@@ -169,7 +169,8 @@ fn check_drawn() -> u64 {
     passed
 }
 
-/// Whole shelves listed by pages of every size from 1 on.
+/// Whole shelves listed by pages of 0, 1, 2 and 7 entries, of the shelf's size and of the greatest number, into rooms that just take them, are
+/// larger, or too small by one.
 #[cfg(has_trials)]
 fn check_lists() -> u64 {
     let mut numbers = Numbers(0x3C79_AC49_2BA7_B653);
@@ -179,18 +180,18 @@ fn check_lists() -> u64 {
         let m = 1 + numbers.below(k);
         let (key, word) = (counts::any_word(&mut numbers, m), counts::any_word(&mut numbers, m));
         let shelf = counts::brute_shelf(k, m, key, word);
-        for page_room in [0, 1, 2, 7, shelf.len() as u64, HUGE] {
+        for each in [0, 1, 2, 7, shelf.len() as u64, HUGE] {
             for room_len in [shelf.len(), shelf.len() + 3, shelf.len().saturating_sub(1)] {
                 let mut room = vec![UNTOUCHED; room_len];
-                let got = foreign::list(k, m, key, word, page_room, &mut room);
+                let got = foreign::list(k, m, key, word, each, &mut room);
                 let mut expected = vec![UNTOUCHED; room_len];
-                let refused = room_len < shelf.len() || (page_room == 0 && !shelf.is_empty());
+                let refused = room_len < shelf.len() || (each == 0 && !shelf.is_empty());
                 if !refused {
                     expected[..shelf.len()].copy_from_slice(&shelf);
                 }
                 let answer = if refused { crate::REFUSED_7 } else { shelf.len() as u64 };
                 if got != answer || room != expected {
-                    println!("DIFFERENCE in list: k {k}, m {m}, key {key}, word {word}, page room {page_room}, room {room_len}");
+                    println!("DIFFERENCE in list: k {k}, m {m}, key {key}, word {word}, page room {each}, room {room_len}");
                     println!("  answer {got:#x}, expected {answer:#x}\n  room {room:?}\n  expected {expected:?}");
                     exit(1);
                 }
