@@ -25,7 +25,7 @@ use Rattle.laws.specs.States.{first, next, longest-le}
 use Rattle.laws.specs.Tables.{postmerOk, shelfOk, shelfStep, shelfEnd, shelf-table, shelf-full, shelf-rest}
 use Rattle.laws.specs.Bans.{postmer-ban}
 use Rattle.words.specs.Powers.{PowersAre}
-use Rattle.states.specs.Grids.{grid-at, length-grid}
+use Rattle.states.specs.Grids.{grid-at}
 use Rattle.states.specs.Tables.{nextAt, next-entry, ban-entry}
 use Rattle.shelves.specs.Descents.{allowed, leads, met, waysFrom, completing, Live, NextsSmall, MovesOf, Tables, WaysTo, under, Listed, Descending, ShelfOf}
 
@@ -38,7 +38,7 @@ module _ {ρ : Ranking} {w : Word} {m word : ℕ} {nexts bans : List ℕ} (s : S
 
   -- no next state is above 31
   pub nexts-small : NextsSmall nexts
-  nexts-small = record { long = ap length (s .links .nexts) ∙ length-grid (nextAt w); small = λ c h. small c h }
+  nexts-small = record { small = small }
     where
       low : (i b : ℕ) (t : Bool) → cond t (next w i b) 0 ≤ 31
       low i b true = omega (arith, next-low i b, s .letters .few)

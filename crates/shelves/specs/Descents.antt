@@ -52,7 +52,6 @@ Live m s = (s < m) ⊎ ((32 ≤ s) × (s ≤ 32 + m))
 
 -- no state is above 31
 pub record NextsSmall (next : List ℕ) : Type 0 where
-  pub long : length next ≡ 128
   pub small : (c : ℕ) → c < 128 → getD next c 0 ≤ 31
 
 -- where letters lead, by the next states: behind the first 128 places the word was met before
