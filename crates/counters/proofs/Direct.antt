@@ -1,7 +1,7 @@
 -- The first letters of the word tested directly: whether they are an antemer, by the numbers of the m-mers of these letters followed by the word.
 -- Assumes nothing.
 use Prim.Native.Nat.{ℕ, _+_, _-_, _*_, _/_, _%_, _^_, _≤_, _<_}
-use mathlib.Core.Bool.{Bool, true, false, cond, not, _&&_, _||_}
+use mathlib.Core.Bool.{Bool, true, false, cond, not, _&&_, _||_, Bool·not-not}
 use mathlib.Core.List.{List, [], _∷_, _++_}
 use mathlib.Core.Path.{_≡_, refl, sym, ap, ap₂, _∙_}
 use native.Mathlib.Nat.{pow-le-pow-right, lt-of-lt-of-le, sub-zero}
@@ -34,11 +34,7 @@ all-places p (a ∷ l) d = go (p a) (all-places p l d)
 
 -- not above is at most
 not-above : (x y : ℕ) → not (ltb y x) ≡ leb x y
-not-above x y = ap not (above-not x y) ∙ go (leb x y)
-  where
-    go : (t : Bool) → not (not t) ≡ t
-    go true = refl
-    go false = refl
+not-above x y = ap not (above-not x y) ∙ Bool·not-not (leb x y)
 
 -- the number of the first i letters followed by the word; side is the number of words of m letters
 abbrev pub followedBy : ℕ → ℕ → ℕ → ℕ → ℕ

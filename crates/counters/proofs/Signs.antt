@@ -18,6 +18,7 @@ use Rattle.definitions.specs.Vigemins.{value}
 use Rattle.laws.specs.Numbers.{four-pos, four-pow, length-digits, digits-below, number-digits, take-digits, drop-digits, letters-take, letters-drop, letter-lt, each-letter, sum-lt, val-sum, letter-cut}
 use Rattle.laws.specs.Orders.{Ranking, OneToOne, ranked, keyRanking, keyed-ranked, keyed-one-to-one, rank-same}
 use Rattle.laws.specs.Prefixes.{goesOn-at}
+use Rattle.laws.specs.RulesHold.{sign-equal as equal-sign}
 use Rattle.laws.specs.Rules.{Sign, sign, isLess, isEqual, less, equal, greater, stretch, own, R, Σ}
 use Rattle.words.specs.Powers.{powerOutcome, power-four}
 use Rattle.counters.specs.Settings.{signed, SetTo, LetterSign}
@@ -59,13 +60,7 @@ signed-above x y = go (ltb x y) (eqb x y) refl refl
 
 -- 1 where they are equal
 signed-same : (x y : ℕ) → eqb (signed (sign x y)) 1 ≡ eqb x y
-signed-same x y = go (ltb x y) (eqb x y) refl refl
-  where
-    go : (t u : Bool) → ltb x y ≡ t → eqb x y ≡ u → eqb (signed (cond t less (cond u equal greater))) 1 ≡ u
-    go true true p q = absurd (omega (arith, ltb-true x y p, eqb-true x y q))
-    go true false p q = refl
-    go false true p q = refl
-    go false false p q = refl
+signed-same x y = signed-equal (sign x y) refl ∙ equal-sign x y
 
 -- and 0 where it is neither
 signed-neither : (r : ℕ) (x y : ℕ) → r ≡ signed (sign x y) → eqb r 0 ≡ not (eqb r 2 || eqb r 1)

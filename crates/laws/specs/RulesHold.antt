@@ -37,7 +37,8 @@ sign-less x y = go (ltb x y) (eqb x y)
     go false true = refl
     go false false = refl
 
-sign-equal : (x y : ℕ) → isEqual (sign x y) ≡ eqb x y
+-- the sign is equal exactly if the numbers are
+pub sign-equal : (x y : ℕ) → isEqual (sign x y) ≡ eqb x y
 sign-equal x y = go (ltb x y) (eqb x y) refl refl
   where
     go : (s t : Bool) → ltb x y ≡ s → eqb x y ≡ t → isEqual (cond s less (cond t equal greater)) ≡ t

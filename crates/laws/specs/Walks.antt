@@ -30,7 +30,8 @@ getD-put true zero = refl
 getD-put true (suc r) = refl
 getD-put false r = refl
 
-below-cond : (t : Bool) (n r : ℕ) → r < cond t n 0 → (t ≡ true) × (r < n)
+-- a place below a count that stands behind a test: the test holds
+pub below-cond : (t : Bool) (n r : ℕ) → r < cond t n 0 → (t ≡ true) × (r < n)
 below-cond true n r h = (refl, h)
 below-cond false n r h = absurd (omega arith)
 

@@ -4,7 +4,7 @@ use Prim.Native.Nat.{ℕ, zero, suc, _+_, _-_, _*_, _%_, _^_, _≤_, _<_, min}
 use mathlib.Core.Bool.{Bool, true, false, cond}
 use mathlib.Core.List.{List, [], _∷_, _++_, map, map-map, append-nil, List·Memᴰ, List·Memᴰ·not-nil}
 use mathlib.Core.Logic.{⊎-elim}
-use mathlib.Core.Path.{_≡_, refl, sym, ap, ap₂, fun-ext, _∙_}
+use mathlib.Core.Path.{_≡_, sym, ap, ap₂, fun-ext, _∙_}
 use native.Mathlib.Nat.{sub-zero, add-assoc, suc-mul, add-mul, mul-assoc, mul-left-comm, mul-le-mul-right, pow-succ', pow-le-pow-right, one-le-pow, mod-lt, zero-lt-suc}
 use native.Mathlib.Numerals.{add-one}
 use native.Mathlib.Omega.{arith}
@@ -16,7 +16,7 @@ use Rattle.definitions.specs.Words.{Word, letters, words, val}
 use Rattle.laws.specs.Numbers.{letters-at, four-pos}
 use Rattle.laws.specs.Filters.{filter-full, take-least, part-append, joined, joined-append, map-joined, length-tabulate, tabulate-at, tabulate-agree, drop-tabulate, map-tabulate}
 use Rattle.laws.specs.Counting.{map-agree, filter-words, length-words, words-numbers}
-use Rattle.laws.specs.Walks.{accepts, rest, accepts-split, rest-count, ways-count, ways-le}
+use Rattle.laws.specs.Walks.{below-cond, accepts, rest, accepts-split, rest-count, ways-count, ways-le}
 use Rattle.laws.specs.Rooms.{over-append, length-over, overTo, length-overTo, overTo-more}
 use Rattle.shelves.proofs.Ways.{live-lt}
 use Rattle.shelves.specs.Descents.{allowed, leads, met, waysFrom, waysUnder, completing, Ready, numbered, under, Listed, Descending, AtOnce, Longer}
@@ -111,11 +111,6 @@ rest-length false p n m = absurd (List·Memᴰ·not-nil m)
 begun-more : (begun b n v : ℕ) → begun * 4 ^ suc n + (b * 4 ^ n + v) ≡ (4 * begun + b) * 4 ^ n + v
 begun-more begun b n v = rw (pow-succ', add-mul, mul-assoc, mul-left-comm begun 4 (4 ^ n), add-assoc)
 
--- under a letter with a way, the letter is allowed
-open-way : (t : Bool) (f : Word → ℕ) (l : List Word) (k p : ℕ) → p < cond t k 0 → (map f (cond t l []) ≡ map f l) × (p < k)
-open-way true f l k p h = (refl, h)
-open-way false f l k p h = absurd (omega arith)
-
 module _ (moves ban : List ℕ) (n s begun : ℕ) where
   -- the numbers of the k-mers under a beginning whose next letter is b, where n letters follow it
   abbrev pub underLetter : ℕ → List ℕ
@@ -150,7 +145,8 @@ module _ (moves ban : List ℕ) (n s begun : ℕ) where
   letter-under : (b p : ℕ) → p < waysUnder moves ban s n b
       → (underLetter b ≡ under moves ban n (leads moves s b) (4 * begun + b)) × (p < waysFrom moves ban (leads moves s b) n)
   letter-under b p h =
-      open-way (allowed ban s n b) (λ z. (4 * begun + b) * 4 ^ n + val z) (completing moves ban (leads moves s b) n) (waysFrom moves ban (leads moves s b) n) p h
+      let q = below-cond (allowed ban s n b) (waysFrom moves ban (leads moves s b) n) p h in
+      (ap (λ (t : Bool). numbered (4 * begun + b) n (cond t (completing moves ban (leads moves s b) n) [])) (q .0), q .1)
 
   -- where every word completes the state, they are numbers in a row
   under-free : waysFrom moves ban s n ≡ 4 ^ n → under moves ban n s begun ≡ tabulate (λ i. begun * 4 ^ n + i) (4 ^ n)
