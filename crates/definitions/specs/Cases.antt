@@ -2,7 +2,7 @@
 -- what the table does not ask: the other operations, refusals, bounds, and the order of a page.
 -- Assumes nothing.
 use Prim.Native.Nat.{ℕ, _-_}
-use mathlib.Core.Bool.{Bool, true, _&&_}
+use mathlib.Core.Bool.{Bool, true, not, _&&_}
 use mathlib.Core.List.{List, [], _∷_, _++_, map}
 use mathlib.Core.Path.{_≡_, refl}
 use lib.Dec.{eqb}
@@ -12,6 +12,7 @@ use Rattle.definitions.specs.Words.{words, same, val, spelled, text}
 use Rattle.definitions.specs.Refusals.{refusal, badSequence}
 use Rattle.definitions.specs.Outcomes.{packOutcome, unpackOutcome, vigeminOutcome, sizeOutcome, worksheetOutcome, counterOutcome, pageOutcome, scanOutcome, foreignSizeOutcome, foreignScanOutcome}
 use Rattle.definitions.specs.Outcomes.{counterGrounds, packAnswer, unpackAnswer, vigeminAnswer, sizeAnswer, worksheetAnswer, counterAnswer, pageAnswer, scanAnswer}
+use Rattle.definitions.specs.Cards.{ascii, wellFormed, decimal, cardText, printedText, cardOutcome}
 
 -- the four capitals as bytes, so that a text can be read
 abbrev A : ℕ
@@ -184,3 +185,29 @@ pub foreign-scan-cases : (foreignScanOutcome 4 2 0 (A ∷ C ∷ G ∷ T ∷ A �
     × (foreignScanOutcome 4 2 0 (A ∷ C ∷ G ∷ T ∷ A ∷ []) (replicate 7 9) ≡ record { answer = 9223372036855234560; room = replicate 7 9 })
 unfolding foreignScanOutcome scanAnswer
 foreign-scan-cases = (refl, refl, refl)
+
+-- ---- the shelf printer
+
+-- document 01's example; W1's shelf of A under key C, which tells key and word apart; and k = 3, key A, word A, of whose 37 k-mers 16 are printed
+pub card-cases : (cardOutcome (ascii "4 TAA AAA\n") ≡ printedText 0 (ascii "k=4 key=TAA word=AAA size=4\n0 AAAA\n1 AAAC\n2 AAAG\n3 AAAT\n"))
+    × (cardOutcome (ascii "2 C A\n") ≡ printedText 0 (ascii "k=2 key=C word=A size=5\n0 AA\n1 AG\n2 AT\n3 GA\n4 TA\n"))
+    × (cardOutcome (ascii "3 A A\n")
+    ≡ printedText 0 (ascii "k=3 key=A word=A size=37\n0 AAA\n1 AAC\n2 AAG\n3 AAT\n4 ACA\n5 ACC\n6 ACG\n7 ACT\n8 AGA\n9 AGC\n10 AGG\n11 AGT\n12 ATA\n13 ATC\n14 ATG\n15 ATT\n"))
+unfolding cardOutcome cardText decimal
+card-cases = (refl, refl, refl)
+
+-- k = 0 and 32, and m above k, are well formed and refused by the operations; a lower case letter is told first
+pub card-refusals : (cardOutcome (ascii "0 A A\n") ≡ printedText 1 (ascii "refused 1\n")) × (cardOutcome (ascii "32 A A\n") ≡ printedText 1 (ascii "refused 1\n"))
+    × (cardOutcome (ascii "3 AAAA AAAA\n") ≡ printedText 2 (ascii "refused 2\n")) × (cardOutcome (ascii "0 A a\n") ≡ printedText 10 (ascii "refused 10\n"))
+unfolding cardOutcome cardText decimal
+card-refusals = (refl, refl, refl, refl)
+
+-- lines of which each is malformed in one way
+abbrev malformed : List (List ℕ)
+malformed =
+    ascii "" ∷ ascii "\n" ∷ ascii "4 TAA AAA" ∷ ascii "4 TAA AAA\n\n" ∷ ascii "4 TAA AAA\n4 TAA AAA\n" ∷ ascii " 4 TAA AAA\n" ∷ ascii "4  TAA AAA\n"
+    ∷ ascii "4 TAA  AAA\n" ∷ ascii "4 TAA AAA \n" ∷ ascii "4\tTAA AAA\n" ∷ ascii "4 TAA AAA\r\n" ∷ ascii "04 TAA AAA\n" ∷ ascii "00 A A\n" ∷ ascii "100 A A\n"
+    ∷ ascii "x A A\n" ∷ ascii "4x A A\n" ∷ ascii "4 TAA AA\n" ∷ ascii "4 TAN AAA\n" ∷ ascii "4 TAA AaA\n" ∷ ascii "4 TAA\n" ∷ ascii "4 TAA AAA AAA\n" ∷ ascii "4  \n" ∷ []
+
+pub malformed-lines : all (λ s. not (wellFormed s)) malformed ≡ true
+malformed-lines = refl

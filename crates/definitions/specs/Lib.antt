@@ -38,4 +38,5 @@ pub mod Vigemins
 pub mod Shelves
 pub mod Refusals
 pub mod Outcomes
+pub mod Cards
 pub mod Cases

@@ -233,11 +233,19 @@ scanAnswer-place (suc r) entries f k m s room = refl
 
 -- ---- the numbers of a refused size and of a refused scan are small
 
+-- the refusal of a size is that of its shelf
+pub size-refusal : (k m key w : ℕ) → sizeOutcome k m key w .refusal ≡ refusal (shelfGrounds k m key w)
+unfolding sizeOutcome
+size-refusal k m key w = sizeAnswer-refusal (refusal (shelfGrounds k m key w)) (keyed (word m key)) k (word m w)
+
+-- where nothing is refused, the size is counted
+pub size-count : (k m key w : ℕ) → refusal (shelfGrounds k m key w) ≡ 0 → sizeOutcome k m key w .count ≡ size (keyed (word m key)) k (word m w)
+unfolding sizeOutcome sizeAnswer
+size-count k m key w z = ap (λ (r : ℕ). sizeAnswer r (keyed (word m key)) k (word m w) .count) z
+
 -- the size refuses by at most 4
 pub size-refusal-most : (k m key w : ℕ) → sizeOutcome k m key w .refusal ≤ 4
-unfolding sizeOutcome
-size-refusal-most k m key w =
-    rw (sizeAnswer-refusal (refusal (shelfGrounds k m key w)) (keyed (word m key)) k (word m w)) (refusal-most 4 (shelfGrounds k m key w) refl)
+size-refusal-most k m key w = rw size-refusal (refusal-most 4 (shelfGrounds k m key w) refl)
 
 module _ (k m key : ℕ) (s : List ℕ) (each : ℕ) (room : List ℕ) where
   -- no number of refusal is above 7

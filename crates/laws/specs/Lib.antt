@@ -55,3 +55,4 @@ pub mod Refusals
 pub mod Accepted
 pub mod RoundTrips
 pub mod Listings
+pub mod Cards

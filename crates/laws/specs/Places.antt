@@ -8,7 +8,8 @@ use native.Mathlib.Nat.{le-of-suc-le-suc, not-suc-le-zero, zero-lt-suc}
 use native.Mathlib.Omega.{arith}
 use borrow.Author.Tests.{leb-true, leb-false, lt-ltb}
 use lib.Dec.{leb, ltb, leb·suc-suc}
-use lib.ListN.{length, getD}
+use lib.ListN.{length, getD, drop}
+use lib.Seq.{drop-cons, drop-length}
 use Rattle.definitions.specs.Lists.{all, firstPlace, tabulate}
 use Rattle.laws.specs.Tests.{test-ext, contrary}
 use Rattle.laws.specs.Filters.{any, any-at, at-any, length-tabulate, tabulate-at, tabulate-agree}
@@ -32,6 +33,15 @@ module _ {A : Type 0} (p : A → Bool) where
       go : (t : Bool) → firstPlace p l ≤ length l → cond t zero (suc (firstPlace p l)) ≤ suc (length l)
       go true h = omega arith
       go false h = omega arith
+
+  -- the first place from place i on, where the test at place i has been made
+  pub firstPlace-look : (l : List A) (d : A) (i : ℕ) {t : Bool} → i < length l → p (getD l i d) ≡ t
+      → firstPlace p (drop i l) ≡ cond t zero (suc (firstPlace p (drop (suc i) l)))
+  firstPlace-look l d i h e = rw (drop-cons l i d h, e)
+
+  -- at the end none is left
+  pub firstPlace-end : (l : List A) {i : ℕ} → i ≡ length l → firstPlace p (drop i l) ≡ zero
+  firstPlace-end l e = rw (e, drop-length)
 
   -- a test fails somewhere exactly if the first place at which it fails is below the length
   pub firstPlace-all : (l : List A) → ltb (firstPlace (λ a. not (p a)) l) (length l) ≡ not (all p l)

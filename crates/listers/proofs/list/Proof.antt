@@ -13,9 +13,9 @@ use Rattle.definitions.specs.Words.{Word, word as wordOf}
 use Rattle.definitions.specs.Vigemins.{Form, keyed}
 use Rattle.definitions.specs.Shelves.{size as sizeOf}
 use Rattle.definitions.specs.Refusals.{refusal}
-use Rattle.definitions.specs.Outcomes.{Counted, shelfGrounds, sizeAnswer, sizeOutcome}
+use Rattle.definitions.specs.Outcomes.{Counted, shelfGrounds}
 use Rattle.laws.specs.Tests.{contrary}
-use Rattle.laws.specs.Accepted.{word-accepted, shelf-refusal, sizeAnswer-refusal}
+use Rattle.laws.specs.Accepted.{word-accepted, shelf-refusal, size-refusal, size-count}
 use Rattle.listers.specs.Answers.{roomGrounds, listGrounds, listAnswer, listOutcome}
 use Rattle.listers.proofs.list.Statement.{statement}
 use Rattle.listers.proofs.list.Tie as tie
@@ -31,18 +31,14 @@ one-ground : (x y : Bool) (n : ℕ) → cond x n (cond y n 0) ≡ cond (x || y) 
 one-ground true y n = refl
 one-ground false y n = refl
 
--- the size that is answered where nothing is refused
-size-count : (k m key w : ℕ) → refusal (shelfGrounds k m key w) ≡ 0 → sizeOutcome k m key w .count ≡ sizeOf (keyed (wordOf m key)) k (wordOf m w)
-unfolding sizeOutcome sizeAnswer
-size-count k m key w z = ap (λ (r : ℕ). sizeAnswer r (keyed (wordOf m key)) k (wordOf m w) .count) z
-
 size-requires : tie.Need-size-requires
 size-requires c κs = search needs
 
 -- the refusal of the size is that of the shelf
 given : (c : tie.After-size) → let args = c .before .before .args in c .size .result .refusal ≡ refusal (shelfGrounds (args .k) (args .m) (args .key) (args .word))
-unfolding sizeOutcome
-given c = ap (λ (o : Counted). o .refusal) (c .size .ensures) ∙ sizeAnswer-refusal _ _ _ _
+given c =
+    let args = c .before .before .args in
+    ap (λ (o : Counted). o .refusal) (c .size .ensures) ∙ size-refusal (args .k) (args .m) (args .key) (args .word)
 
 returns : tie.Need-returns
 unfolding listOutcome

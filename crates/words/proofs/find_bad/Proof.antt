@@ -1,29 +1,22 @@
 -- `words::find_bad` meets its contract. The loop's invariant: the first bad place of what is left, counted from here, is that of all. The
 -- measure is what is left of the length.
 -- Assumes nothing.
-use Prim.Native.Nat.{ℕ, suc, _+_, _-_, _≤_, _<_}
-use mathlib.Core.Bool.{Bool, true, false, not, cond}
-use mathlib.Core.List.{List}
-use mathlib.Core.Path.{_≡_, sym, _∙_}
+use Prim.Native.Nat.{ℕ, _+_, _-_, _≤_}
+use mathlib.Core.Bool.{Bool, true, false, not}
+use mathlib.Core.Path.{_≡_, sym, ap, _∙_}
 use native.Mathlib.Numerals.{add-one}
 use native.Mathlib.Omega.{arith}
 use borrow.Author.Needs.{needs}
-use borrow.Author.Tests.{not-true, not-false}
 use lib.ListN.{length, getD, drop}
-use lib.Seq.{drop-cons, drop-length}
 use Rattle.definitions.specs.Words.{isLetter}
 use Rattle.definitions.specs.Refusals.{firstBad}
+use Rattle.laws.specs.Places.{firstPlace-look, firstPlace-end}
 use Rattle.words.proofs.find_bad.Statement.{statement}
 use Rattle.words.proofs.find_bad.Tie as tie
 
--- the byte at a place is looked at
-look : (l : List ℕ) (i : ℕ) {t : Bool} → i < length l → isLetter (getD l i 0) ≡ t
-    → firstBad (drop i l) ≡ cond (not t) 0 (suc (firstBad (drop (suc i) l)))
-look l i h e = rw (drop-cons l i 0 h, e)
-
--- none is left
-none-left : (l : List ℕ) {i : ℕ} → i ≡ length l → firstBad (drop i l) ≡ 0
-none-left l e = rw (e, drop-length)
+-- whether a byte is no letter
+abbrev bad : ℕ → Bool
+bad b = not (isLetter b)
 
 abbrev Inv-loop : tie.InvT-loop
 Inv-loop text i₀ i = (i ≤ length text) × (i + firstBad (drop i text) ≡ firstBad text)
@@ -44,8 +37,8 @@ returns : tie.Need-returns Inv-loop μ-loop
 returns c =
     let text = c .before .before .before .before .before .before .args .text .now in
     let at = c .before .before .before .before .loop in
-    let bad : isLetter (getD text (at .i) 0) ≡ false = sym (c .before .is-letter .ensures) ∙ not-true (c .before .is-letter .result) (c .if1 .taken) in
-    omega (arith, at .inv .1, look text (at .i) (c .before .before .before .loop-test .taken) bad)
+    let here : bad (getD text (at .i) 0) ≡ true = ap not (sym (c .before .is-letter .ensures)) ∙ c .if1 .taken in
+    omega (arith, at .inv .1, firstPlace-look bad text 0 (at .i) (c .before .before .before .loop-test .taken) here)
 
 add-i : tie.Need-add-i Inv-loop μ-loop
 add-i c = search needs
@@ -57,13 +50,13 @@ loop-again : tie.Need-loop-again Inv-loop μ-loop
 loop-again c =
     let text = c .before .before .before .before .before .before .args .text .now in
     let at = c .before .before .before .before .loop in
-    let good : isLetter (getD text (at .i) 0) ≡ true = sym (c .before .is-letter .ensures) ∙ not-false (c .before .is-letter .result) (c .if1 .left) in
-    (omega arith, rw add-one (omega (arith, at .inv .1, look text (at .i) (c .before .before .before .loop-test .taken) good)))
+    let here : bad (getD text (at .i) 0) ≡ false = ap not (sym (c .before .is-letter .ensures)) ∙ c .if1 .left in
+    (omega arith, rw add-one (omega (arith, at .inv .1, firstPlace-look bad text 0 (at .i) (c .before .before .before .loop-test .taken) here)))
 
 returns-2 : tie.Need-returns-2 Inv-loop μ-loop
 returns-2 c =
     let text = c .before .before .before .args .text .now in
-    omega (arith, c .before .loop .inv .1, none-left text {i = c .before .loop .i} (omega arith))
+    omega (arith, c .before .loop .inv .1, firstPlace-end bad text {i = c .before .loop .i} (omega arith))
 
 pub find-bad-spec : {M : Type 1} → statement M
 find-bad-spec =

@@ -1,0 +1,140 @@
+-- The answer to an input, from its line, the size and the first page.
+-- Assumes nothing.
+use Prim.Native.Nat.{ℕ, zero, suc, _+_, _-_, _^_, _≤_, _<_, zero-le}
+use mathlib.Core.Bool.{Bool, true, false, cond, not}
+use mathlib.Core.List.{List, [], _∷_, _++_, map}
+use mathlib.Core.Path.{_≡_, refl, sym, ap, ap₂, subst, _∙_}
+use native.Mathlib.Omega.{arith}
+use lib.Dec.{eqb}
+use lib.ListN.{length, getD, take, drop, length-take, length-map, replicate}
+use lib.Seq.{take-at}
+use Rattle.definitions.specs.Lists.{over}
+use Rattle.definitions.specs.Words.{word, val}
+use Rattle.definitions.specs.Vigemins.{Form, keyed}
+use Rattle.definitions.specs.Shelves.{size, page}
+use Rattle.definitions.specs.Refusals.{Ground, refusal}
+use Rattle.definitions.specs.Outcomes.{Counted, Paged, shelfGrounds, sizeOutcome, pageOutcome}
+use Rattle.definitions.specs.Cards.{ascii, decimal, Asked, asks, parts, wellFormed, Printed, cardGrounds, cardText, cardOutcome, settings, entries}
+use Rattle.laws.specs.Accepted.{ShelfAccepted, word-accepted, size-refusal, size-count}
+use Rattle.laws.specs.Listings.{page-outcome}
+use Rattle.laws.specs.Cards.{page-words, page-small}
+use Rattle.cards.specs.Texts.{Laid, SettingsFit, KmersFit}
+use Rattle.cards.specs.Answers.{Line, Told, askedOf, Reads, Wrote, textFor, Answers}
+use Rattle.cards.proofs.Laying.{laid-as, laid-next, laid-left, settings-length, decimal-short, decimal-most}
+
+-- the line of a refusal
+refused-text : (r : ℕ) → (r ≡ 0 → ⊥) → (f : Form) (a : Asked) → cardText r f a ≡ ascii "refused " ++ decimal r ++ ascii "\n"
+unfolding cardText
+refused-text zero h f a = absurd (h refl)
+refused-text (suc r) h f a = refl
+
+-- the text where nothing is refused
+shown-text : (r : ℕ) → r ≡ 0 → (f : Form) (a : Asked)
+    → cardText r f a ≡ settings a (size f (a .k) (word (a .m) (a .word))) ++ entries 0 (page f (a .k) (word (a .m) (a .word)) 0 16)
+unfolding cardText
+shown-text r e f a = rw e
+
+-- the grounds of what a line asks for
+abbrev groundsOf : Asked → List Ground
+groundsOf a = shelfGrounds (a .k) (a .m) (a .key) (a .word)
+
+module _ (s : List ℕ) {l : Line} {o : Counted} {r : ℕ} (reads : Reads s l) (sized : o ≡ sizeOutcome (l .k) (l .m) (l .key) (l .word)) (first : r ≡ cond (eqb (l .refusal) 0) (o .refusal) (l .refusal)) where
+  -- the refusal of a malformed line is 10
+  malformed-ten : wellFormed s ≡ false → r ≡ 10
+  malformed-ten e = first ∙ rw (reads .bad e)
+
+  -- and that of any other the size's
+  formed-size : wellFormed s ≡ true → r ≡ refusal (shelfGrounds (l .k) (l .m) (l .key) (l .word))
+  formed-size e = first ∙ rw (reads .good e) (ap (λ (c : Counted). c .refusal) sized ∙ size-refusal (l .k) (l .m) (l .key) (l .word))
+
+  -- so it is the first that is met
+  told : r ≡ refusal (cardGrounds s)
+  told = go (wellFormed s) refl
+    where
+      go : (t : Bool) → wellFormed s ≡ t → r ≡ refusal (cardGrounds s)
+      go false e = malformed-ten e ∙ rw e
+      go true e = formed-size e ∙ ap (λ (a : Asked). refusal (groundsOf a)) (reads .asks e) ∙ rw e
+
+  -- where there is none, the line is well formed
+  formed : r ≡ 0 → wellFormed s ≡ true
+  formed z = go (wellFormed s) refl
+    where
+      go : (t : Bool) → wellFormed s ≡ t → wellFormed s ≡ true
+      go true e = e
+      go false e = absurd (omega (arith, malformed-ten e))
+
+  -- and the shelf is one that is accepted
+  pub accepted : r ≡ 0 → ShelfAccepted (l .k) (l .m) (l .key) (l .word)
+  accepted z = word-accepted (l .m) (l .k) (l .m) (l .key) (l .word) (sym (formed-size (formed z)) ∙ z)
+
+  -- a refusal was written
+  pub answer-refused : {t : Told} {old room : List ℕ} → (r ≡ 0 → ⊥) → Wrote r (ascii "refused " ++ decimal r ++ ascii "\n") t old room → Answers s t old room
+  answer-refused h w =
+      let a = asks (parts s) in
+      record {
+        refusal = w .refusal ∙ told;
+        laid = laid-as (ap (λ (n : ℕ). cardText n (keyed (word (a .m) (a .key))) a) (sym told) ∙ refused-text r h (keyed (word (a .m) (a .key))) a) (w .laid);
+      }
+
+  -- the settings and the first k-mers were written
+  pub answer-shown : {n : ℕ} {ks old room : List ℕ} → r ≡ 0 → ks ≡ map val (page (keyed (word (l .m) (l .key))) (l .k) (word (l .m) (l .word)) 0 16)
+      → Laid (settings (askedOf (l .k) (l .m) (l .key) (l .word)) (o .count) ++ entries 0 (map (word (l .k)) ks)) n old room
+      → Answers s (record { refusal = 0; length = n }) old room
+  answer-shown {n} {ks} {old} {room} z q w =
+      let a = askedOf (l .k) (l .m) (l .key) (l .word) in
+      let f = keyed (word (l .m) (l .key)) in
+      let v = word (l .m) (l .word) in
+      let count : o .count ≡ size f (l .k) v = ap (λ (c : Counted). c .count) sized ∙ size-count (l .k) (l .m) (l .key) (l .word) (sym (formed-size (formed z)) ∙ z) in
+      let shown : map (word (l .k)) ks ≡ page f (l .k) v 0 16 = ap (map (word (l .k))) q ∙ page-words f (l .k) v 0 16 in
+      let same-text : textFor s ≡ settings a (o .count) ++ entries 0 (map (word (l .k)) ks) =
+      ap (λ (b : Asked). cardText (refusal (cardGrounds s)) (keyed (word (b .m) (b .key))) b) (sym (reads .asks (formed z)))
+      ∙ shown-text (refusal (cardGrounds s)) (sym told ∙ z) f a
+      ∙ sym (ap₂ (λ (c : ℕ) (p : List (List ℕ)). settings a c ++ entries 0 p) count shown) in
+      record { refusal = sym z ∙ told; laid = laid-as same-text w }
+
+-- ---- what is written where nothing is refused
+
+module _ {k m key w : ℕ} (a : ShelfAccepted k m key w) where
+  -- the first k-mers
+  abbrev firstKmers : List ℕ
+  firstKmers = map val (page (keyed (word m key)) k (word m w) 0 16)
+
+  -- what the first page wrote
+  pub first-page : {p : Paged} (old : List ℕ) → length old ≡ 16 → p ≡ pageOutcome k m key w 0 old → (p .written ≤ 16) × (take (p .written) (p .room) ≡ firstKmers)
+  first-page {p} old long e =
+      let new = map val (page (keyed (word m key)) k (word m w) 0 (length old)) in
+      let is = e ∙ page-outcome a 0 old zero-le in
+      let written : p .written ≡ length new = ap (λ (q : Paged). q .written) is in
+      let room : p .room ≡ over new old = ap (λ (q : Paged). q .room) is in
+      let short : length new ≤ 16 = rw (length-map, length-take, long) (omega arith) in
+      (omega (arith, written), ap₂ take written room ∙ take-at new (drop (length new) old) (length new) refl ∙ ap (λ (n : ℕ). map val (page (keyed (word m key)) k (word m w) 0 n)) long)
+
+  -- the settings have room
+  pub settings-fit : {room : ℕ} → 104 ≤ room → SettingsFit k m key w room
+  settings-fit h =
+      record { kFew = a .order .kFew; mSome = a .order .mSome; mFew = omega (arith, a .order .mFits, a .order .kFew); keySmall = a .order .keySmall; wordSmall = a .small; fits = h }
+
+  -- they take at most 104 bytes
+  settings-most : (n : ℕ) → length (settings (askedOf k m key w) n) ≤ 104
+  settings-most n =
+      omega (arith, settings-length (askedOf k m key w) n, decimal-short k (omega (arith, a .order .kFew)), decimal-most n, a .order .mFits, a .order .kFew)
+
+  -- and the k-mers have room behind them
+  pub kmers-fit : (n : ℕ) {at : ℕ} {ks old room : List ℕ} → 664 ≤ length old → ks ≡ firstKmers → length ks ≤ 16 → Laid (settings (askedOf k m key w) n) at old room
+      → KmersFit k ks (length (take (length room - at) (drop at room)))
+  kmers-fit n {at} {ks} {old} {room} h q most l =
+      record {
+        some = a .order .kSome;
+        few = a .order .kFew;
+        most = most;
+        small = λ i j. subst (λ (l : List ℕ). getD l i 0 < 4 ^ k) (sym q) (page-small (keyed (word m key)) k (word m w) 0 16 i (subst (λ (l : List ℕ). i < length l) q j));
+        fits = rw (laid-left l) (omega (arith, l .long, settings-most n));
+      }
+
+-- ---- the whole card
+
+-- what is told and the room are the card's outcome
+pub card-is : (s : List ℕ) {t : Told} {room : List ℕ} → Answers s t (replicate 664 0) room
+    → _≡_ {A = Printed} (record { refusal = t .refusal; length = t .length; text = room }) (cardOutcome s)
+unfolding cardOutcome
+card-is s {t} {room} a = rw (a .refusal, a .laid .long, a .laid .front)

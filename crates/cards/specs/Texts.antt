@@ -1,0 +1,50 @@
+-- Texts that are written part by part, each at the front of the room that is left.
+-- Assumes nothing.
+use Prim.Native.Nat.{ℕ, suc, _+_, _*_, _^_, _≤_, _<_}
+use mathlib.Core.List.{List}
+use mathlib.Core.Path.{_≡_}
+use lib.ListN.{length, getD}
+use Rattle.definitions.specs.Lists.{over}
+use Rattle.definitions.specs.Cards.{decimalIn}
+
+-- a text was written at the front of a room, which it fits, and its length is told
+pub record Laid (t : List ℕ) (told : ℕ) (old room : List ℕ) : Type 0 where
+  pub long : told ≡ length t
+  pub fits : length t ≤ length old
+  pub front : room ≡ over t old
+
+-- a number was written in decimal, whatever number of digits is allowed that suffices
+pub record LaidDecimal (x told : ℕ) (old room : List ℕ) : Type 0 where
+  pub each : (n : ℕ) → x < 10 ^ suc n → Laid (decimalIn (suc n) x) told old room
+
+-- what writing a word asks: one of n letters, and room for these and so many bytes before them
+pub record WordFits (label n word room : ℕ) : Type 0 where
+  pub some : 0 < n
+  pub few : n ≤ 31
+  pub small : word < 4 ^ n
+  pub fits : label + n ≤ room
+
+-- what writing the settings asks
+pub record SettingsFit (k m key word room : ℕ) : Type 0 where
+  pub kFew : k ≤ 31
+  pub mSome : 0 < m
+  pub mFew : m ≤ 31
+  pub keySmall : key < 4 ^ m
+  pub wordSmall : word < 4 ^ m
+  pub fits : 104 ≤ room
+
+-- what writing the line of a k-mer asks: one of the first 16 places, a k-mer, and 35 bytes
+pub record KmerFits (place k kmer room : ℕ) : Type 0 where
+  pub soon : place < 16
+  pub some : 0 < k
+  pub few : k ≤ 31
+  pub small : kmer < 4 ^ k
+  pub fits : 35 ≤ room
+
+-- what writing some k-mers asks: at most 16, each of k letters, and 35 bytes for each
+pub record KmersFit (k : ℕ) (kmers : List ℕ) (room : ℕ) : Type 0 where
+  pub some : 0 < k
+  pub few : k ≤ 31
+  pub most : length kmers ≤ 16
+  pub small : (i : ℕ) → i < length kmers → getD kmers i 0 < 4 ^ k
+  pub fits : 35 * length kmers ≤ room

@@ -1,0 +1,294 @@
+// The shelf printer's whole answer, from the bytes that were read: the card of a shelf. Assumes nothing.
+ghost use mathlib.Core.Path.{_≡_};
+ghost use mathlib.Core.Bool.{cond};
+ghost use mathlib.Core.List.{[], _∷_, _++_, map};
+ghost use Prim.Native.Nat.{_-_, _≤_, _+_};
+ghost use lib.Dec.{eqb};
+ghost use lib.ListN.{length};
+ghost use Rattle.definitions.specs.Lists.{firstPlace};
+ghost use Rattle.definitions.specs.Words.{word as wordOf, text as written};
+ghost use Rattle.definitions.specs.Cards.{ascii, before as beforeFirst, behind as behindFirst, isDigit, isNumber, numberOf, decimal as decimalText, entries, settings, cardOutcome};
+ghost use Rattle.cards.specs.Texts.{Laid, LaidDecimal, WordFits, SettingsFit, KmerFits, KmersFit};
+ghost use Rattle.cards.specs.Answers.{printed, askedOf, Reads, ReadsParts, Wrote, Answers};
+
+// ---- the line that is read
+
+// The place of the first byte of a kind; the length where there is none.
+fn find(byte: u8, text: &[u8]) -> usize
+    ensures { λ r. ⌜ r ≡ firstPlace (eqb byte) (now (text .entry)) ⌝ }
+{
+    let mut i = 0;
+    while i < text.len() {
+        if byte == text[i] {
+            return i;
+        }
+        i += 1;
+    }
+    i
+}
+
+// The part of a text before the first byte of a kind; all where there is none.
+fn before(byte: u8, text: &[u8]) -> &[u8]
+    ensures { λ r. ⌜ now r ≡ beforeFirst byte (now (text .entry)) ⌝ }
+{
+    let at = find(byte, text);
+    &text[..at]
+}
+
+// The part of a text behind the first byte of a kind; none where there is none.
+fn behind(byte: u8, text: &[u8]) -> &[u8]
+    ensures { λ r. ⌜ now r ≡ behindFirst byte (now (text .entry)) ⌝ }
+{
+    let at = find(byte, text);
+    if at < text.len() {
+        return &text[at + 1..];
+    }
+    &text[at..]
+}
+
+// The digit that a byte spells; 10 where it spells none.
+fn digit(byte: u8) -> u64
+    ensures { λ r. ⌜ r ≡ cond (isDigit byte) (byte - 48) 10 ⌝ }
+{
+    if (b'0' <= byte) & (byte <= b'9') {
+        return byte as u64 - 48;
+    }
+    10
+}
+
+// The number that one or two digits with no leading zero spell; 100 where the text is no such.
+fn number(text: &[u8]) -> u64
+    ensures { λ r. ⌜ r ≡ cond (isNumber (now (text .entry))) (numberOf (now (text .entry))) 100 ⌝ }
+{
+    let n = text.len();
+    if n == 1 {
+        let only = digit(text[0]);
+        if only < 10 {
+            return only;
+        }
+        return 100;
+    }
+    if n == 2 {
+        let tens = digit(text[0]);
+        let ones = digit(text[1]);
+        if (0 < tens) & (tens < 10) & (ones < 10) {
+            return tens * 10 + ones;
+        }
+        return 100;
+    }
+    100
+}
+
+// What a line asks for: 0, k, m, and the numbers of the key and the word; or 10 and zeros.
+struct Line {
+    refusal: u64,
+    k: u64,
+    m: u64,
+    key: u64,
+    word: u64,
+}
+
+// A malformed line.
+fn malformed() -> Line
+    ensures { λ r. ⌜ r .refusal ≡ 10 ⌝ }
+{
+    Line {
+        refusal: 10,
+        k: 0,
+        m: 0,
+        key: 0,
+        word: 0,
+    }
+}
+
+// The line of three texts.
+fn read_parts(k: &[u8], key: &[u8], word: &[u8]) -> Line
+    ensures { λ r. ⌜ ReadsParts (now (k .entry)) (now (key .entry)) (now (word .entry)) r ⌝ }
+{
+    let number = number(k);
+    let first = words::pack(key);
+    let second = words::pack(word);
+    if (number == 100) | (first.refusal != 0) | (second.refusal != 0) | (key.len() != word.len()) {
+        return malformed();
+    }
+    Line {
+        refusal: 0,
+        k: number,
+        m: key.len() as u64,
+        key: first.word,
+        word: second.word,
+    }
+}
+
+// The line of an input: three parts that make up all of it, with two spaces between and a line feed.
+fn read(input: &[u8]) -> Line
+    ensures { λ r. ⌜ Reads (now (input .entry)) r ⌝ }
+{
+    let k = before(b' ', input);
+    let rest = behind(b' ', input);
+    let key = before(b' ', rest);
+    let last = behind(b' ', rest);
+    let word = before(b'\n', last);
+    if k.len() + key.len() + word.len() + 3 != input.len() {
+        return malformed();
+    }
+    read_parts(k, key, word)
+}
+
+// ---- the text that is written, part by part, each at the front of the room that is left
+
+// Writes some bytes.
+fn lay(bytes: &[u8], room: &mut [u8]) -> usize
+    requires { ⌜ length (now bytes) ≤ length (now room) ⌝ }
+    ensures { λ r. ⌜ Laid (now (bytes .entry)) r (now (room .entry)) (now (room .exit)) ⌝ }
+{
+    let mut i = 0;
+    while i < bytes.len() {
+        room[i] = bytes[i];
+        i += 1;
+    }
+    i
+}
+
+// Writes a number in decimal: its tenth part, if it has one, and the last digit.
+fn decimal(number: u64, room: &mut [u8]) -> usize
+    requires { ⌜ 20 ≤ length (now room) ⌝ }
+    ensures { λ r. ⌜ LaidDecimal number r (now (room .entry)) (now (room .exit)) ⌝ }
+{
+    if number < 10 {
+        room[0] = b'0' + number as u8;
+        return 1;
+    }
+    let at = decimal(number / 10, room);
+    room[at] = b'0' + (number % 10) as u8;
+    at + 1
+}
+
+// Writes a label and a number.
+fn numbered(label: &[u8], number: u64, room: &mut [u8]) -> usize
+    requires { ⌜ length (now label) + 20 ≤ length (now room) ⌝ }
+    ensures { λ r. ⌜ Laid (now (label .entry) ++ decimalText number) r (now (room .entry)) (now (room .exit)) ⌝ }
+{
+    let at = lay(label, room);
+    at + decimal(number, &mut room[at..])
+}
+
+// Writes a label and the letters of a word.
+fn lettered(label: &[u8], n: u64, word: u64, room: &mut [u8]) -> usize
+    requires { ⌜ WordFits (length (now label)) n word (length (now room)) ⌝ }
+    ensures { λ r. ⌜ Laid (now (label .entry) ++ written (wordOf n word)) r (now (room .entry)) (now (room .exit)) ⌝ }
+{
+    let at = lay(label, room);
+    let letters = words::unpack(word, n, &mut room[at..]);
+    at + letters.written as usize
+}
+
+// Writes the line of a k-mer: its place and its letters.
+fn entry(place: u64, k: u64, kmer: u64, room: &mut [u8]) -> usize
+    requires { ⌜ KmerFits place k kmer (length (now room)) ⌝ }
+    ensures { λ r. ⌜ Laid (entries place (wordOf k kmer ∷ [])) r (now (room .entry)) (now (room .exit)) ⌝ }
+{
+    let mut at = decimal(place, room);
+    at += lettered(b" ", k, kmer, &mut room[at..]);
+    at += lay(b"\n", &mut room[at..]);
+    at
+}
+
+// Writes a line for each k-mer.
+fn list(k: u64, kmers: &[u64], room: &mut [u8]) -> usize
+    requires { ⌜ KmersFit k (now kmers) (length (now room)) ⌝ }
+    ensures { λ r. ⌜ Laid (entries 0 (map (wordOf k) (now (kmers .entry)))) r (now (room .entry)) (now (room .exit)) ⌝ }
+{
+    let mut at = 0;
+    let mut i = 0;
+    while i < kmers.len() {
+        at += entry(i as u64, k, kmers[i], &mut room[at..]);
+        i += 1;
+    }
+    at
+}
+
+// Writes the line of the settings and the size.
+fn head(k: u64, m: u64, key: u64, word: u64, size: u64, room: &mut [u8]) -> usize
+    requires { ⌜ SettingsFit k m key word (length (now room)) ⌝ }
+    ensures { λ r. ⌜ Laid (settings (askedOf k m key word) size) r (now (room .entry)) (now (room .exit)) ⌝ }
+{
+    let mut at = numbered(b"k=", k, room);
+    at += lettered(b" key=", m, key, &mut room[at..]);
+    at += lettered(b" word=", m, word, &mut room[at..]);
+    at += numbered(b" size=", size, &mut room[at..]);
+    at += lay(b"\n", &mut room[at..]);
+    at
+}
+
+// ---- the answer
+
+// What was written: the refusal, and the length of the text.
+struct Told {
+    refusal: u64,
+    length: usize,
+}
+
+// Writes the line of a refusal.
+fn refused(refusal: u64, room: &mut [u8]) -> Told
+    requires { ⌜ 29 ≤ length (now room) ⌝ }
+    ensures { λ r. ⌜ Wrote refusal (ascii "refused " ++ decimalText refusal ++ ascii "\n") r (now (room .entry)) (now (room .exit)) ⌝ }
+{
+    let at = numbered(b"refused ", refusal, room);
+    let end = lay(b"\n", &mut room[at..]);
+    Told {
+        refusal: refusal,
+        length: at + end,
+    }
+}
+
+// The first of two refusals that is one; 0 where neither is.
+fn first(one: u64, other: u64) -> u64
+    ensures { λ r. ⌜ r ≡ cond (eqb one 0) other one ⌝ }
+{
+    if one == 0 { other } else { one }
+}
+
+// Writes the answer to an input. Refusals 10, then 1 to 4.
+fn answer(input: &[u8], room: &mut [u8]) -> Told
+    requires { ⌜ 664 ≤ length (now room) ⌝ }
+    ensures { λ r. ⌜ Answers (now (input .entry)) r (now (room .entry)) (now (room .exit)) ⌝ }
+{
+    let line = read(input);
+    let size = worksheets::size(line.k, line.m, line.key, line.word);
+    let refusal = first(line.refusal, size.refusal);
+    if refusal != 0 {
+        return refused(refusal, room);
+    }
+    let mut kmers: [u64; 16] = [0; 16];
+    let page = shelves::page(line.k, line.m, line.key, line.word, 0, &mut kmers);
+    let n = page.written as usize;
+    let at = head(line.k, line.m, line.key, line.word, size.count, room);
+    let end = list(line.k, &kmers[..n], &mut room[at..]);
+    Told {
+        refusal: 0,
+        length: at + end,
+    }
+}
+
+// What the printer prints: the refusal, the length of the text, and the text, with zeros behind it.
+pub struct Printed {
+    pub refusal: u64,
+    pub length: usize,
+    pub text: [u8; 664],
+}
+
+// The card of a shelf, from the input that names it: the settings and the size, then place and k-mer for the first 16, or for all if there are
+// fewer; or the line of a refusal. Refusals 10, then 1 to 4.
+pub fn card(input: &[u8]) -> Printed
+    ensures { λ r. ⌜ printed r ≡ cardOutcome (now (input .entry)) ⌝ }
+    ensures { λ r. ⌜ r .length ≤ length (r .text) ⌝ }
+{
+    let mut text: [u8; 664] = [0; 664];
+    let answer = answer(input, &mut text);
+    Printed {
+        refusal: answer.refusal,
+        length: answer.length,
+        text: text,
+    }
+}

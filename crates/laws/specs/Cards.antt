@@ -1,0 +1,191 @@
+-- The shelf printer: an input is well formed exactly if it is the line of three proper parts, and then it has at most 67 bytes; the k-mers that are
+-- printed are the words of the numbers that a page writes.
+-- Assumes nothing.
+use Prim.Native.Nat.{ℕ, suc, _+_, _-_, _^_, _≤_, _<_, min}
+use mathlib.Core.Bool.{Bool, true, false, not, _&&_, true≢false}
+use mathlib.Core.List.{List, [], _∷_, _++_, map, append-assoc, List·Memᴰ, List·Memᴰ·head, List·Memᴰ·tail}
+use mathlib.Core.Path.{_≡_, refl, sym, ap, ap₂, subst, _∙_}
+use native.Mathlib.Numerals.{add-one}
+use native.Mathlib.Omega.{arith}
+use borrow.Author.Tests.{eq-eqb, ne-eqb, eqb-true, not-true}
+use lib.Dec.{eqb}
+use lib.ListN.{length, getD, take, drop, length-append, length-take, length-drop, length-map, drop-of-length-le}
+use lib.Seq.{length-take-le, take-nil, take-all, split-at, take-append-seam, drop-append-add, getD-take, getD-drop}
+use Rattle.definitions.specs.Lists.{all, firstPlace}
+use Rattle.definitions.specs.Words.{Word, Mer, same, val, word, isLetter}
+use Rattle.definitions.specs.Vigemins.{Form}
+use Rattle.definitions.specs.Shelves.{shelf, page}
+use Rattle.definitions.specs.Cards.{space, feed, before, behind, Parts, parts, line, isDigit, isNumber, isWord, proper, wellFormed}
+use Rattle.definitions.specs.Refusals.{refusal}
+use Rattle.definitions.specs.Outcomes.{packGrounds}
+use Rattle.laws.specs.Tests.{and-l, and-r, and-i, contrary, test-ext, same-eq, eq-same}
+use Rattle.laws.specs.Filters.{at-mem, mem-at, at-map}
+use Rattle.laws.specs.Numbers.{number-lt, digits-number}
+use Rattle.laws.specs.Catalogue.{shelf-holds}
+use Rattle.laws.specs.Places.{firstPlace-holds, firstPlace-le}
+use Rattle.laws.specs.Accepted.{PackAccepted, pack-accepted}
+
+-- the part before the first byte of a kind is as long as the first place tells
+pub length-before : (b : ℕ) (s : List ℕ) → length (before b s) ≡ firstPlace (eqb b) s
+length-before b s = length-take-le (firstPlace (eqb b) s) s (firstPlace-le (eqb b) s)
+
+-- the part behind it has the rest but one
+pub length-behind : (b : ℕ) (s : List ℕ) → length (behind b s) ≡ length s - suc (length (before b s))
+length-behind b s = rw (length-before b s) (length-drop (suc (firstPlace (eqb b) s)) s)
+
+-- that part, cut at the place that was found
+pub behind-part : (b : ℕ) (s : List ℕ) {a : ℕ} → a ≡ firstPlace (eqb b) s → take (length s - (a + 1)) (drop (a + 1) s) ≡ behind b s
+behind-part b s {a} e =
+    take-all (length s - (a + 1)) (drop (a + 1) s) (rw length-drop (omega arith)) ∙ ap (λ (n : ℕ). drop n s) (add-one a ∙ ap suc e)
+
+-- where there is no such byte, nothing is behind it
+pub behind-none : (b : ℕ) (s : List ℕ) {a : ℕ} → length s ≤ a → a ≡ firstPlace (eqb b) s → take (length s - a) (drop a s) ≡ behind b s
+behind-none b s {a} h e =
+    ap (take (length s - a)) (drop-of-length-le s h) ∙ take-nil (length s - a) ∙ sym (drop-of-length-le s {i = suc (firstPlace (eqb b) s)} (omega (arith, e)))
+
+-- where there is such a byte, the two parts and the byte between them are the text
+pub cut-whole : (b : ℕ) (s : List ℕ) → length (before b s) < length s → before b s ++ (b ∷ behind b s) ≡ s
+cut-whole b s h =
+    let at : firstPlace (eqb b) s < length s = rw (length-before b s) at h in
+    let it : b ≡ getD s (firstPlace (eqb b) s) 0 = eqb-true b (getD s (firstPlace (eqb b) s) 0) (firstPlace-holds (eqb b) s 0 at) in
+    ap (λ (a : ℕ). before b s ++ (a ∷ behind b s)) it ∙ sym (split-at s (firstPlace (eqb b) s) 0 at)
+
+-- how long the line of three texts is
+pub length-line : (p : Parts) → length (line p) ≡ length (p .k) + length (p .key) + length (p .word) + 3
+length-line p = rw (length-append, length-append, length-append) (omega arith)
+
+-- the line of three texts, from its first part on
+line-nested : (p : Parts) → line p ≡ p .k ++ (space ∷ (p .key ++ (space ∷ (p .word ++ (feed ∷ [])))))
+line-nested p = append-assoc (p .k ++ (space ∷ p .key)) (space ∷ p .word) (feed ∷ []) ∙ append-assoc (p .k) (space ∷ p .key) (space ∷ (p .word ++ (feed ∷ [])))
+
+-- where the lengths of the parts of an input and three bytes make up its length, it is the line of its parts
+whole : (s : List ℕ) → let p = parts s in length (p .k) + length (p .key) + length (p .word) + 3 ≡ length s → s ≡ line p
+whole s e =
+    let rest = behind space s in
+    let last = behind space rest in
+    let r = length-behind space s in
+    let l = length-behind space rest in
+    let first = cut-whole space s (omega arith) in
+    let second = cut-whole space rest (omega arith) in
+    let third = cut-whole feed last (omega arith) in
+    let end : behind feed last ≡ [] = drop-of-length-le last {i = suc (firstPlace (eqb feed) last)} (omega (arith, length-before feed last)) in
+    sym (line-nested (parts s) ∙ ap (λ (t : List ℕ). before space s ++ (space ∷ (before space rest ++ (space ∷ (before feed last ++ (feed ∷ t)))))) (sym end)
+    ∙ ap (λ (t : List ℕ). before space s ++ (space ∷ (before space rest ++ (space ∷ t)))) third ∙ ap (λ (t : List ℕ). before space s ++ (space ∷ t)) second ∙ first)
+
+-- an input is the line of its parts exactly if these and three bytes make up its length
+pub line-test : (s : List ℕ) → let p = parts s in same s (line p) ≡ eqb (length (p .k) + length (p .key) + length (p .word) + 3) (length s)
+line-test s =
+    let p = parts s in
+    let n = length (p .k) + length (p .key) + length (p .word) + 3 in
+    test-ext (same s (line p)) (eqb n (length s))
+    (λ e. eq-eqb n (length s) (sym (ap length (same-eq s (line p) e) ∙ length-line p)))
+    (λ e. eq-same (whole s (eqb-true n (length s) e)))
+
+-- a well-formed input is the line of its parts, which are proper
+pub formed-line : (s : List ℕ) → wellFormed s ≡ true → (s ≡ line (parts s)) × (proper (parts s) ≡ true)
+formed-line s e = let p = parts s in (same-eq s (line p) (and-l (same s (line p)) (proper p) e), and-r (same s (line p)) (proper p) e)
+
+-- what proper parts are
+pub record Proper (p : Parts) : Type 0 where
+  pub number : isNumber (p .k) ≡ true
+  pub key : PackAccepted (p .key)
+  pub word : PackAccepted (p .word)
+  pub alike : length (p .key) ≡ length (p .word)
+
+pub proper-parts : (p : Parts) → proper p ≡ true → Proper p
+proper-parts p e =
+    let n = isNumber (p .k) in
+    let a = isWord (p .key) in
+    let b = isWord (p .word) in
+    let l = eqb (length (p .key)) (length (p .word)) in
+    let nab = and-l (n && a && b) l e in
+    let na = and-l (n && a) b nab in
+    record {
+      number = and-l n a na;
+      key = pack-accepted (p .key) (eqb-true (refusal (packGrounds (p .key))) 0 (and-r n a na));
+      word = pack-accepted (p .word) (eqb-true (refusal (packGrounds (p .word))) 0 (and-r (n && a) b nab));
+      alike = eqb-true (length (p .key)) (length (p .word)) (and-r (n && a && b) l e);
+    }
+
+-- a byte of another kind than one that passes a test
+other-byte : (p : ℕ → Bool) (b c : ℕ) → p b ≡ false → p c ≡ true → not (eqb b c) ≡ true
+other-byte p b c n e = ap not (ne-eqb b c (λ q. contrary (p c) e (ap p (sym q) ∙ n)))
+
+-- one or two digits, none of which is a space
+number-digits : (t : List ℕ) → isNumber t ≡ true → (length t ≤ 2) × (all (λ c. not (eqb space c)) t ≡ true)
+number-digits [] e = absurd (true≢false (sym e))
+number-digits (a ∷ []) e = (omega arith, and-i (not (eqb space a)) true (other-byte isDigit space a refl e) refl)
+number-digits (a ∷ b ∷ []) e =
+    let first = and-l (isDigit a) (not (eqb a 48)) (and-l (isDigit a && not (eqb a 48)) (isDigit b) e) in
+    let second = and-r (isDigit a && not (eqb a 48)) (isDigit b) e in
+    (omega arith, and-i (not (eqb space a)) (not (eqb space b) && true) (other-byte isDigit space a refl first) (and-i (not (eqb space b)) true (other-byte isDigit space b refl second) refl))
+number-digits (a ∷ b ∷ c ∷ t) e = absurd (true≢false (sym e))
+
+-- a well-formed input has at most 67 bytes, so what has more is refused however it goes on
+pub formed-short : (s : List ℕ) → wellFormed s ≡ true → length s ≤ 67
+formed-short s e =
+    let f = formed-line s e in
+    let p = proper-parts (parts s) (f .1) in
+    omega (arith, ap length (f .0), length-line (parts s), number-digits (parts s .k) (p .number) .0, p .key .few, p .word .few)
+
+-- a text of letters has no byte that is none
+letters-other : (b : ℕ) → isLetter b ≡ false → (t : List ℕ) → all isLetter t ≡ true → all (λ c. not (eqb b c)) t ≡ true
+letters-other b n [] e = refl
+letters-other b n (c ∷ t) e =
+    and-i (not (eqb b c)) (all (λ x. not (eqb b x)) t) (other-byte isLetter b c n (and-l (isLetter c) (all isLetter t) e))
+    (letters-other b n t (and-r (isLetter c) (all isLetter t) e))
+
+-- the first byte of a kind behind a text that has none
+first-behind : (b : ℕ) (u v : List ℕ) → all (λ c. not (eqb b c)) u ≡ true → firstPlace (eqb b) (u ++ (b ∷ v)) ≡ length u
+first-behind b [] v e = rw (eq-eqb b b refl)
+first-behind b (c ∷ u) v e =
+    rw (not-true (eqb b c) (and-l (not (eqb b c)) (all (λ x. not (eqb b x)) u) e))
+    (ap suc (first-behind b u v (and-r (not (eqb b c)) (all (λ x. not (eqb b x)) u) e)))
+
+-- it cuts the text off
+cut-behind : (b : ℕ) (u v : List ℕ) → all (λ c. not (eqb b c)) u ≡ true → (before b (u ++ (b ∷ v)) ≡ u) × (behind b (u ++ (b ∷ v)) ≡ v)
+cut-behind b u v e = (
+  ap (λ (n : ℕ). take n (u ++ (b ∷ v))) (first-behind b u v e) ∙ take-append-seam u (b ∷ v),
+  ap (λ (n : ℕ). drop (suc n) (u ++ (b ∷ v))) (first-behind b u v e) ∙ ap (λ (n : ℕ). drop n (u ++ (b ∷ v))) (sym (add-one (length u))) ∙ drop-append-add u (b ∷ v) 1,
+)
+
+-- the line of proper parts is well formed, and these are its parts
+pub line-formed : (p : Parts) → proper p ≡ true → (parts (line p) ≡ p) × (wellFormed (line p) ≡ true)
+line-formed p e =
+    let q = proper-parts p e in
+    let rest = p .key ++ (space ∷ (p .word ++ (feed ∷ []))) in
+    let first = cut-behind space (p .k) rest (number-digits (p .k) (q .number) .1) in
+    let second = cut-behind space (p .key) (p .word ++ (feed ∷ [])) (letters-other space refl (p .key) (q .key .allLetters)) in
+    let third = cut-behind feed (p .word) [] (letters-other feed refl (p .word) (q .word .allLetters)) in
+    let same-parts : parts (line p) ≡ p = rw (line-nested p, first .0, first .1, second .0, second .1, third .0) in
+    (same-parts, and-i (same (line p) (line (parts (line p)))) (proper (parts (line p))) (eq-same (ap line (sym same-parts))) (ap proper same-parts ∙ e))
+
+-- ---- the k-mers that are printed
+
+-- k-mers are the words of their numbers
+kmers-words : (k : ℕ) (l : List Word) → ((x : Word) → List·Memᴰ x l → Mer k x) → map (word k) (map val l) ≡ l
+kmers-words k [] h = refl
+kmers-words k (x ∷ l) h =
+    let m = h x (List·Memᴰ·head refl) in
+    ap₂ (λ (y : Word) (r : List Word). y ∷ r) (digits-number 4 x (m .1) (m .0)) (kmers-words k l (λ y q. h y (List·Memᴰ·tail q)))
+
+module _ (f : Form) (k : ℕ) (w : Word) (start n : ℕ) where
+  -- what stands on a page is a k-mer
+  page-mer : (x : Word) → List·Memᴰ x (page f k w start n) → Mer k x
+  page-mer x h =
+      let p = mem-at (page f k w start n) [] h in
+      let i = p .0 in
+      let long : min n (length (shelf f k w) - start) ≡ length (page f k w start n) = sym (length-take n (drop start (shelf f k w)) ∙ ap (min n) (length-drop start (shelf f k w))) in
+      let there = at-mem (shelf f k w) [] (start + i) (omega (arith, p .1)) in
+      shelf-holds f k w x .0 (subst (λ (y : Word). List·Memᴰ y (shelf f k w)) (sym (p .2 ∙ getD-take n (drop start (shelf f k w)) i [] (omega (arith, p .1)) ∙ getD-drop start (shelf f k w) i [])) there) .0
+
+  -- the k-mers of a page are the words of the numbers that are written
+  pub page-words : map (word k) (map val (page f k w start n)) ≡ page f k w start n
+  page-words = kmers-words k (page f k w start n) page-mer
+
+  -- each number is that of k letters
+  pub page-small : (i : ℕ) → i < length (map val (page f k w start n)) → getD (map val (page f k w start n)) i 0 < 4 ^ k
+  page-small i h =
+      let here : i < length (page f k w start n) = rw length-map at h in
+      let m = page-mer (getD (page f k w start n) i []) (at-mem (page f k w start n) [] i here) in
+      rw (at-map val (page f k w start n) [] 0 i here) (subst (λ (l : ℕ). val (getD (page f k w start n) i []) < 4 ^ l) (m .0) (number-lt 4 (getD (page f k w start n) i []) (m .1)))
