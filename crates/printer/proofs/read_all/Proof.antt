@@ -1,0 +1,103 @@
+-- `printer::read_all` meets its contract. The loop's invariant: no more stands in the room than it takes. The measure is the turns left.
+-- Assumes nothing.
+use Prim.Native.Nat.{_≤_}
+use mathlib.Core.Path.{_≡_}
+use borrow.Author.Needs.{needs}
+use lib.ListN.{length}
+use Rattle.printer.proofs.read_all.Statement.{statement}
+use Rattle.printer.proofs.read_all.Tie as tie
+use Rattle.printer.proofs.read_all.Reads as reads
+use Rattle.printer.proofs.read_all.Lts as lts
+use Rattle.io.proofs.count.Reads as count-reads
+use Rattle.libc.proofs.read.Reads as read-reads
+use Rattle.os.proofs.fail.Reads as fail-reads
+use Rattle.printer.proofs.behind.Reads as behind-reads
+
+abbrev Inv-loop : tie.InvT-loop
+Inv-loop room₀ n₀ turns₀ t7 room n turns = (n ≤ 128) × (length room ≡ 128)
+
+abbrev μ-loop : tie.MeasureT-loop
+μ-loop room₀ n₀ turns₀ t7 room n turns = turns
+
+loop-holds : tie.Need-loop-holds Inv-loop μ-loop
+loop-holds c = search needs
+
+behind-requires : tie.Need-behind-requires Inv-loop μ-loop
+behind-requires c κs = search needs
+
+sub-part : tie.Need-sub-part Inv-loop μ-loop
+sub-part c = search needs
+
+part-part-start : tie.Need-part-part-start Inv-loop μ-loop
+part-part-start c = search needs
+
+part-part-end : tie.Need-part-part-end Inv-loop μ-loop
+part-part-end c = search needs
+
+read-requires : tie.Need-read-requires Inv-loop μ-loop
+read-requires c κs = search needs
+
+slice-aggregate-fail : tie.Need-slice-aggregate-fail Inv-loop μ-loop
+slice-aggregate-fail c = search needs
+
+fail-requires : tie.Need-fail-requires Inv-loop μ-loop
+fail-requires c κs = search needs
+
+same-length : tie.Need-same-length Inv-loop μ-loop
+same-length c = search needs
+
+returns : tie.Need-returns Inv-loop μ-loop
+returns c = search needs
+
+same-length-2 : tie.Need-same-length-2 Inv-loop μ-loop
+same-length-2 c = search needs
+
+returns-2 : tie.Need-returns-2 Inv-loop μ-loop
+returns-2 c = search needs
+
+count-requires : tie.Need-count-requires Inv-loop μ-loop
+count-requires c κs = search needs
+
+add-n : tie.Need-add-n Inv-loop μ-loop
+add-n c = search needs
+
+sub-turns : tie.Need-sub-turns Inv-loop μ-loop
+sub-turns c = search needs
+
+loop-less : tie.Need-loop-less Inv-loop μ-loop
+loop-less c = search needs
+
+loop-again : tie.Need-loop-again Inv-loop μ-loop
+loop-again c = search needs
+
+same-length-3 : tie.Need-same-length-3 Inv-loop μ-loop
+same-length-3 c = search needs
+
+returns-3 : tie.Need-returns-3 Inv-loop μ-loop
+returns-3 c = search needs
+
+pub read-all-spec : {M : Type 1} → statement M
+read-all-spec =
+    tie.close
+    (tie.spec
+    Inv-loop
+    μ-loop
+    loop-holds
+    behind-requires
+    sub-part
+    part-part-start
+    part-part-end
+    read-requires
+    slice-aggregate-fail
+    fail-requires
+    same-length
+    returns
+    same-length-2
+    returns-2
+    count-requires
+    add-n
+    sub-turns
+    loop-less
+    loop-again
+    same-length-3
+    returns-3)
