@@ -14,12 +14,13 @@ use Rattle.definitions.specs.Vigemins.{Form, keyed}
 use Rattle.definitions.specs.Shelves.{size, page}
 use Rattle.definitions.specs.Refusals.{Ground, refusal}
 use Rattle.definitions.specs.Outcomes.{Counted, Paged, shelfGrounds, sizeOutcome, pageOutcome}
-use Rattle.definitions.specs.Cards.{ascii, decimal, Asked, asks, parts, wellFormed, Printed, cardGrounds, cardText, cardOutcome, settings, entries}
+use Rattle.definitions.specs.Cards.{Line as LineRead, readAnswer, readOutcome, ascii, decimal, Asked, asks, parts, wellFormed, Printed, cardGrounds, cardText, cardOutcome, settings, entries}
 use Rattle.laws.specs.Accepted.{ShelfAccepted, word-accepted, size-refusal, size-count}
 use Rattle.laws.specs.Listings.{page-outcome}
 use Rattle.laws.specs.Cards.{page-words, page-small}
+use Rattle.lines.specs.Answers.{Answer as Line, lined}
 use Rattle.cards.specs.Texts.{Laid, SettingsFit, KmersFit}
-use Rattle.cards.specs.Answers.{Line, Told, askedOf, Reads, Wrote, textFor, Answers}
+use Rattle.cards.specs.Answers.{Told, askedOf, Wrote, textFor, Answers}
 use Rattle.cards.proofs.Laying.{laid-as, laid-next, laid-left, settings-length, decimal-short, decimal-most}
 
 -- the line of a refusal
@@ -38,14 +39,25 @@ shown-text r e f a = rw e
 abbrev groundsOf : Asked → List Ground
 groundsOf a = shelfGrounds (a .k) (a .m) (a .key) (a .word)
 
-module _ (s : List ℕ) {l : Line} {o : Counted} {r : ℕ} (reads : Reads s l) (sized : o ≡ sizeOutcome (l .k) (l .m) (l .key) (l .word)) (first : r ≡ cond (eqb (l .refusal) 0) (o .refusal) (l .refusal)) where
+module _ (s : List ℕ) {l : Line} {o : Counted} {r : ℕ} (reads : lined l ≡ readOutcome s) (sized : o ≡ sizeOutcome (l .k) (l .m) (l .key) (l .word)) (first : r ≡ cond (eqb (l .refusal) 0) (o .refusal) (l .refusal)) where
+  -- the refusal of the line
+  line-refusal : (t : Bool) → wellFormed s ≡ t → l .refusal ≡ cond t 0 10
+  unfolding readOutcome readAnswer
+  line-refusal true e = ap (λ (x : LineRead). x .refusal) reads ∙ rw e
+  line-refusal false e = ap (λ (x : LineRead). x .refusal) reads ∙ rw e
+
+  -- what it asks for
+  line-asks : wellFormed s ≡ true → askedOf (l .k) (l .m) (l .key) (l .word) ≡ asks (parts s)
+  unfolding readOutcome readAnswer
+  line-asks e = ap (λ (x : LineRead). x .asked) reads ∙ rw e
+
   -- the refusal of a malformed line is 10
   malformed-ten : wellFormed s ≡ false → r ≡ 10
-  malformed-ten e = first ∙ rw (reads .bad e)
+  malformed-ten e = first ∙ rw (line-refusal false e)
 
   -- and that of any other the size's
   formed-size : wellFormed s ≡ true → r ≡ refusal (shelfGrounds (l .k) (l .m) (l .key) (l .word))
-  formed-size e = first ∙ rw (reads .good e) (ap (λ (c : Counted). c .refusal) sized ∙ size-refusal (l .k) (l .m) (l .key) (l .word))
+  formed-size e = first ∙ rw (line-refusal true e) (ap (λ (c : Counted). c .refusal) sized ∙ size-refusal (l .k) (l .m) (l .key) (l .word))
 
   -- so it is the first that is met
   told : r ≡ refusal (cardGrounds s)
@@ -53,7 +65,7 @@ module _ (s : List ℕ) {l : Line} {o : Counted} {r : ℕ} (reads : Reads s l) (
     where
       go : (t : Bool) → wellFormed s ≡ t → r ≡ refusal (cardGrounds s)
       go false e = malformed-ten e ∙ rw e
-      go true e = formed-size e ∙ ap (λ (a : Asked). refusal (groundsOf a)) (reads .asks e) ∙ rw e
+      go true e = formed-size e ∙ ap (λ (a : Asked). refusal (groundsOf a)) (line-asks e) ∙ rw e
 
   -- where there is none, the line is well formed
   formed : r ≡ 0 → wellFormed s ≡ true
@@ -87,7 +99,7 @@ module _ (s : List ℕ) {l : Line} {o : Counted} {r : ℕ} (reads : Reads s l) (
       let count : o .count ≡ size f (l .k) v = ap (λ (c : Counted). c .count) sized ∙ size-count (l .k) (l .m) (l .key) (l .word) (sym (formed-size (formed z)) ∙ z) in
       let shown : map (word (l .k)) ks ≡ page f (l .k) v 0 16 = ap (map (word (l .k))) q ∙ page-words f (l .k) v 0 16 in
       let same-text : textFor s ≡ settings a (o .count) ++ entries 0 (map (word (l .k)) ks) =
-      ap (λ (b : Asked). cardText (refusal (cardGrounds s)) (keyed (word (b .m) (b .key))) b) (sym (reads .asks (formed z)))
+      ap (λ (b : Asked). cardText (refusal (cardGrounds s)) (keyed (word (b .m) (b .key))) b) (sym (line-asks (formed z)))
       ∙ shown-text (refusal (cardGrounds s)) (sym told ∙ z) f a
       ∙ sym (ap₂ (λ (c : ℕ) (p : List (List ℕ)). settings a c ++ entries 0 p) count shown) in
       record { refusal = sym z ∙ told; laid = laid-as same-text w }

@@ -1,7 +1,6 @@
 -- What the functions of `cards` answer.
 -- Assumes nothing.
 use Prim.Native.Nat.{ℕ, suc, _+_, _*_, _^_, _≤_, _<_}
-use mathlib.Core.Bool.{Bool, true, false}
 use mathlib.Core.List.{List}
 use mathlib.Core.Path.{_≡_}
 use lib.ListN.{length}
@@ -10,7 +9,6 @@ use Rattle.definitions.specs.Vigemins.{keyed}
 use Rattle.definitions.specs.Refusals.{refusal}
 use Rattle.definitions.specs.Cards as cards
 use Rattle.cards.specs.Texts.{Laid}
-use Rattle.cards.specs.declared.Line as declared-line
 use Rattle.cards.specs.declared.Told as declared-told
 use Rattle.cards.specs.declared.Printed as declared-printed
 
@@ -21,24 +19,6 @@ printed r = record { refusal = r .refusal; length = r .length; text = r .text }
 -- what a line asks for
 abbrev pub askedOf : ℕ → ℕ → ℕ → ℕ → cards.Asked
 askedOf k m key w = record { k = k; m = m; key = key; word = w }
-
--- what reading a line answers
-abbrev pub Line : Type 0
-Line = declared-line.Line
-
--- a line was read: 10 where it is malformed, else 0 and what it asks for
-pub record LineIs (formed : Bool) (a : cards.Asked) (r : Line) : Type 0 where
-  pub bad : formed ≡ false → r .refusal ≡ 10
-  pub good : formed ≡ true → r .refusal ≡ 0
-  pub asks : formed ≡ true → askedOf (r .k) (r .m) (r .key) (r .word) ≡ a
-
--- the line of an input was read
-abbrev pub Reads : List ℕ → Line → Type 0
-Reads s r = LineIs (cards.wellFormed s) (cards.asks (cards.parts s)) r
-
--- the line of three texts was read
-abbrev pub ReadsParts : List ℕ → List ℕ → List ℕ → Line → Type 0
-ReadsParts k key w r = let p : cards.Parts = record { k = k; key = key; word = w } in LineIs (cards.proper p) (cards.asks p) r
 
 -- a refusal was answered and a text written
 pub record Wrote (n : ℕ) (t : List ℕ) (r : declared-told.Told) (old room : List ℕ) : Type 0 where

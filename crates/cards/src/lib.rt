@@ -2,138 +2,13 @@
 ghost use mathlib.Core.Path.{_≡_};
 ghost use mathlib.Core.Bool.{cond};
 ghost use mathlib.Core.List.{[], _∷_, _++_, map};
-ghost use Prim.Native.Nat.{_-_, _≤_, _+_};
+ghost use Prim.Native.Nat.{_≤_, _+_};
 ghost use lib.Dec.{eqb};
 ghost use lib.ListN.{length};
-ghost use Rattle.definitions.specs.Lists.{firstPlace};
 ghost use Rattle.definitions.specs.Words.{word as wordOf, text as written};
-ghost use Rattle.definitions.specs.Cards.{ascii, before as beforeFirst, behind as behindFirst, isDigit, isNumber, numberOf, decimal as decimalText, entries, settings, cardOutcome};
+ghost use Rattle.definitions.specs.Cards.{ascii, decimal as decimalText, entries, settings, cardOutcome};
 ghost use Rattle.cards.specs.Texts.{Laid, LaidDecimal, WordFits, SettingsFit, KmerFits, KmersFit};
-ghost use Rattle.cards.specs.Answers.{printed, askedOf, Reads, ReadsParts, Wrote, Answers};
-
-// ---- the line that is read
-
-// The place of the first byte of a kind; the length where there is none.
-fn find(byte: u8, text: &[u8]) -> usize
-    ensures { λ r. ⌜ r ≡ firstPlace (eqb byte) (now (text .entry)) ⌝ }
-{
-    let mut i = 0;
-    while i < text.len() {
-        if byte == text[i] {
-            return i;
-        }
-        i += 1;
-    }
-    i
-}
-
-// The part of a text before the first byte of a kind; all where there is none.
-fn before(byte: u8, text: &[u8]) -> &[u8]
-    ensures { λ r. ⌜ now r ≡ beforeFirst byte (now (text .entry)) ⌝ }
-{
-    let at = find(byte, text);
-    &text[..at]
-}
-
-// The part of a text behind the first byte of a kind; none where there is none.
-fn behind(byte: u8, text: &[u8]) -> &[u8]
-    ensures { λ r. ⌜ now r ≡ behindFirst byte (now (text .entry)) ⌝ }
-{
-    let at = find(byte, text);
-    if at < text.len() {
-        return &text[at + 1..];
-    }
-    &text[at..]
-}
-
-// The digit that a byte spells; 10 where it spells none.
-fn digit(byte: u8) -> u64
-    ensures { λ r. ⌜ r ≡ cond (isDigit byte) (byte - 48) 10 ⌝ }
-{
-    if (b'0' <= byte) & (byte <= b'9') {
-        return byte as u64 - 48;
-    }
-    10
-}
-
-// The number that one or two digits with no leading zero spell; 100 where the text is no such.
-fn number(text: &[u8]) -> u64
-    ensures { λ r. ⌜ r ≡ cond (isNumber (now (text .entry))) (numberOf (now (text .entry))) 100 ⌝ }
-{
-    let n = text.len();
-    if n == 1 {
-        let only = digit(text[0]);
-        if only < 10 {
-            return only;
-        }
-        return 100;
-    }
-    if n == 2 {
-        let tens = digit(text[0]);
-        let ones = digit(text[1]);
-        if (0 < tens) & (tens < 10) & (ones < 10) {
-            return tens * 10 + ones;
-        }
-        return 100;
-    }
-    100
-}
-
-// What a line asks for: 0, k, m, and the numbers of the key and the word; or 10 and zeros.
-struct Line {
-    refusal: u64,
-    k: u64,
-    m: u64,
-    key: u64,
-    word: u64,
-}
-
-// A malformed line.
-fn malformed() -> Line
-    ensures { λ r. ⌜ r .refusal ≡ 10 ⌝ }
-{
-    Line {
-        refusal: 10,
-        k: 0,
-        m: 0,
-        key: 0,
-        word: 0,
-    }
-}
-
-// The line of three texts.
-fn read_parts(k: &[u8], key: &[u8], word: &[u8]) -> Line
-    ensures { λ r. ⌜ ReadsParts (now (k .entry)) (now (key .entry)) (now (word .entry)) r ⌝ }
-{
-    let number = number(k);
-    let first = words::pack(key);
-    let second = words::pack(word);
-    if (number == 100) | (first.refusal != 0) | (second.refusal != 0) | (key.len() != word.len()) {
-        return malformed();
-    }
-    Line {
-        refusal: 0,
-        k: number,
-        m: key.len() as u64,
-        key: first.word,
-        word: second.word,
-    }
-}
-
-// The line of an input: three parts that make up all of it, with two spaces between and a line feed.
-fn read(input: &[u8]) -> Line
-    ensures { λ r. ⌜ Reads (now (input .entry)) r ⌝ }
-{
-    let k = before(b' ', input);
-    let rest = behind(b' ', input);
-    let key = before(b' ', rest);
-    let last = behind(b' ', rest);
-    let word = before(b'\n', last);
-    if k.len() + key.len() + word.len() + 3 != input.len() {
-        return malformed();
-    }
-    read_parts(k, key, word)
-}
+ghost use Rattle.cards.specs.Answers.{printed, askedOf, Wrote, Answers};
 
 // ---- the text that is written, part by part, each at the front of the room that is left
 
@@ -254,7 +129,7 @@ fn answer(input: &[u8], room: &mut [u8]) -> Told
     requires { ⌜ 664 ≤ length (now room) ⌝ }
     ensures { λ r. ⌜ Answers (now (input .entry)) r (now (room .entry)) (now (room .exit)) ⌝ }
 {
-    let line = read(input);
+    let line = lines::read(input);
     let size = worksheets::size(line.k, line.m, line.key, line.word);
     let refusal = first(line.refusal, size.refusal);
     if refusal != 0 {

@@ -49,8 +49,8 @@ parts s =
     record { k = before space s; key = before space rest; word = before feed (behind space rest) }
 
 -- the line of three texts: single spaces between, one line feed, then the end
-abbrev pub line : Parts → List ℕ
-line p = p .k ++ (space ∷ p .key) ++ (space ∷ p .word) ++ (feed ∷ [])
+abbrev pub lineOf : Parts → List ℕ
+lineOf p = p .k ++ (space ∷ p .key) ++ (space ∷ p .word) ++ (feed ∷ [])
 
 -- whether a byte is one of the digits 0 to 9
 abbrev pub isDigit : ℕ → Bool
@@ -77,7 +77,7 @@ proper p = isNumber (p .k) && isWord (p .key) && isWord (p .word) && eqb (length
 
 -- whether an input is the line of its parts, and these are proper
 abbrev pub wellFormed : List ℕ → Bool
-wellFormed s = let p = parts s in same s (line p) && proper p
+wellFormed s = let p = parts s in same s (lineOf p) && proper p
 
 -- 10: the input is malformed
 abbrev pub badLine : List ℕ → Ground
@@ -92,6 +92,23 @@ pub record Asked : Type 0 where
 
 abbrev pub asks : Parts → Asked
 asks p = record { k = numberOf (p .k); m = length (p .key); key = val (spelled (p .key)); word = val (spelled (p .word)) }
+
+-- ---- read(input)
+
+-- what reading a line answers: the refusal, and what the line asks for
+pub record Line : Type 0 where
+  pub refusal : ℕ
+  pub asked : Asked
+
+-- its answer under a number of refusal
+unfoldable pub readAnswer : ℕ → Asked → Line
+readAnswer zero a = record { refusal = 0; asked = a }
+readAnswer (suc r) a = record { refusal = suc r; asked = record { k = 0; m = 0; key = 0; word = 0 } }
+
+-- the outcome of read(input)
+unfoldable pub readOutcome : List ℕ → Line
+unfolding readAnswer
+readOutcome s = readAnswer (refusal (badLine s ∷ [])) (asks (parts s))
 
 -- ---- the text that is written
 

@@ -15,7 +15,7 @@ use Rattle.definitions.specs.Lists.{all, firstPlace}
 use Rattle.definitions.specs.Words.{Word, Mer, same, val, word, isLetter}
 use Rattle.definitions.specs.Vigemins.{Form}
 use Rattle.definitions.specs.Shelves.{shelf, page}
-use Rattle.definitions.specs.Cards.{space, feed, before, behind, Parts, parts, line, isDigit, isNumber, isWord, proper, wellFormed}
+use Rattle.definitions.specs.Cards.{space, feed, before, behind, Parts, parts, lineOf, isDigit, isNumber, isWord, proper, wellFormed}
 use Rattle.definitions.specs.Refusals.{refusal}
 use Rattle.definitions.specs.Outcomes.{packGrounds}
 use Rattle.laws.specs.Tests.{and-l, and-r, and-i, contrary, test-ext, same-eq, eq-same}
@@ -51,15 +51,15 @@ cut-whole b s h =
     ap (λ (a : ℕ). before b s ++ (a ∷ behind b s)) it ∙ sym (split-at s (firstPlace (eqb b) s) 0 at)
 
 -- how long the line of three texts is
-pub length-line : (p : Parts) → length (line p) ≡ length (p .k) + length (p .key) + length (p .word) + 3
+pub length-line : (p : Parts) → length (lineOf p) ≡ length (p .k) + length (p .key) + length (p .word) + 3
 length-line p = rw (length-append, length-append, length-append) (omega arith)
 
 -- the line of three texts, from its first part on
-line-nested : (p : Parts) → line p ≡ p .k ++ (space ∷ (p .key ++ (space ∷ (p .word ++ (feed ∷ [])))))
+line-nested : (p : Parts) → lineOf p ≡ p .k ++ (space ∷ (p .key ++ (space ∷ (p .word ++ (feed ∷ [])))))
 line-nested p = append-assoc (p .k ++ (space ∷ p .key)) (space ∷ p .word) (feed ∷ []) ∙ append-assoc (p .k) (space ∷ p .key) (space ∷ (p .word ++ (feed ∷ [])))
 
 -- where the lengths of the parts of an input and three bytes make up its length, it is the line of its parts
-whole : (s : List ℕ) → let p = parts s in length (p .k) + length (p .key) + length (p .word) + 3 ≡ length s → s ≡ line p
+whole : (s : List ℕ) → let p = parts s in length (p .k) + length (p .key) + length (p .word) + 3 ≡ length s → s ≡ lineOf p
 whole s e =
     let rest = behind space s in
     let last = behind space rest in
@@ -73,17 +73,17 @@ whole s e =
     ∙ ap (λ (t : List ℕ). before space s ++ (space ∷ (before space rest ++ (space ∷ t)))) third ∙ ap (λ (t : List ℕ). before space s ++ (space ∷ t)) second ∙ first)
 
 -- an input is the line of its parts exactly if these and three bytes make up its length
-pub line-test : (s : List ℕ) → let p = parts s in same s (line p) ≡ eqb (length (p .k) + length (p .key) + length (p .word) + 3) (length s)
+pub line-test : (s : List ℕ) → let p = parts s in same s (lineOf p) ≡ eqb (length (p .k) + length (p .key) + length (p .word) + 3) (length s)
 line-test s =
     let p = parts s in
     let n = length (p .k) + length (p .key) + length (p .word) + 3 in
-    test-ext (same s (line p)) (eqb n (length s))
-    (λ e. eq-eqb n (length s) (sym (ap length (same-eq s (line p) e) ∙ length-line p)))
+    test-ext (same s (lineOf p)) (eqb n (length s))
+    (λ e. eq-eqb n (length s) (sym (ap length (same-eq s (lineOf p) e) ∙ length-line p)))
     (λ e. eq-same (whole s (eqb-true n (length s) e)))
 
 -- a well-formed input is the line of its parts, which are proper
-pub formed-line : (s : List ℕ) → wellFormed s ≡ true → (s ≡ line (parts s)) × (proper (parts s) ≡ true)
-formed-line s e = let p = parts s in (same-eq s (line p) (and-l (same s (line p)) (proper p) e), and-r (same s (line p)) (proper p) e)
+pub formed-line : (s : List ℕ) → wellFormed s ≡ true → (s ≡ lineOf (parts s)) × (proper (parts s) ≡ true)
+formed-line s e = let p = parts s in (same-eq s (lineOf p) (and-l (same s (lineOf p)) (proper p) e), and-r (same s (lineOf p)) (proper p) e)
 
 -- what proper parts are
 pub record Proper (p : Parts) : Type 0 where
@@ -150,15 +150,15 @@ cut-behind b u v e = (
 )
 
 -- the line of proper parts is well formed, and these are its parts
-pub line-formed : (p : Parts) → proper p ≡ true → (parts (line p) ≡ p) × (wellFormed (line p) ≡ true)
+pub line-formed : (p : Parts) → proper p ≡ true → (parts (lineOf p) ≡ p) × (wellFormed (lineOf p) ≡ true)
 line-formed p e =
     let q = proper-parts p e in
     let rest = p .key ++ (space ∷ (p .word ++ (feed ∷ []))) in
     let first = cut-behind space (p .k) rest (number-digits (p .k) (q .number) .1) in
     let second = cut-behind space (p .key) (p .word ++ (feed ∷ [])) (letters-other space refl (p .key) (q .key .allLetters)) in
     let third = cut-behind feed (p .word) [] (letters-other feed refl (p .word) (q .word .allLetters)) in
-    let same-parts : parts (line p) ≡ p = rw (line-nested p, first .0, first .1, second .0, second .1, third .0) in
-    (same-parts, and-i (same (line p) (line (parts (line p)))) (proper (parts (line p))) (eq-same (ap line (sym same-parts))) (ap proper same-parts ∙ e))
+    let same-parts : parts (lineOf p) ≡ p = rw (line-nested p, first .0, first .1, second .0, second .1, third .0) in
+    (same-parts, and-i (same (lineOf p) (lineOf (parts (lineOf p)))) (proper (parts (lineOf p))) (eq-same (ap lineOf (sym same-parts))) (ap proper same-parts ∙ e))
 
 -- ---- the k-mers that are printed
 

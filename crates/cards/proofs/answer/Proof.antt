@@ -20,7 +20,7 @@ use Rattle.cards.proofs.answer.Lts as lts
 use Rattle.cards.proofs.first.Reads as first-reads
 use Rattle.cards.proofs.head.Reads as head-reads
 use Rattle.cards.proofs.list.Reads as list-reads
-use Rattle.cards.proofs.read.Reads as read-reads
+use Rattle.lines.proofs.read.Reads as read-reads
 use Rattle.cards.proofs.refused.Reads as refused-reads
 use Rattle.shelves.proofs.page.Reads as page-reads
 use Rattle.worksheets.proofs.size.Reads as size-reads

@@ -1,0 +1,6 @@
+-- Laws that several proofs cite.
+--
+-- Numerals      the number that a text spells
+-- Parts         when an input, and when three texts, are a line
+pub mod Numerals
+pub mod Parts

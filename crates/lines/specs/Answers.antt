@@ -1,0 +1,25 @@
+-- The answer of reading a line as the outcome that `definitions` speaks of.
+-- Assumes nothing.
+use Prim.Native.Nat.{ℕ}
+use mathlib.Core.Bool.{cond}
+use mathlib.Core.List.{List}
+use Rattle.definitions.specs.Cards as cards
+use Rattle.lines.specs.declared.Line as declared-line
+
+-- what reading a line answers
+abbrev pub Answer : Type 0
+Answer = declared-line.Line
+
+-- what it answered
+abbrev pub lined : Answer → cards.Line
+lined r = record { refusal = r .refusal; asked = record { k = r .k; m = r .m; key = r .key; word = r .word } }
+
+-- the answer of a malformed line
+abbrev pub malformedLine : cards.Line
+malformedLine = record { refusal = 10; asked = record { k = 0; m = 0; key = 0; word = 0 } }
+
+-- the outcome of three texts: the line is malformed where they are not proper
+abbrev pub partsOutcome : List ℕ → List ℕ → List ℕ → cards.Line
+partsOutcome k key w =
+    let p : cards.Parts = record { k = k; key = key; word = w } in
+    cards.readAnswer (cond (cards.proper p) 0 10) (cards.asks p)

@@ -1,0 +1,4 @@
+-- What the contracts of `lines` speak of, beside `definitions` and `laws`.
+--
+-- Answers       what reading a line answered, as the outcome that `definitions` speaks of; the outcome of three texts
+pub mod Answers
