@@ -133,12 +133,12 @@ module _ {k m key w : ℕ} (a : ShelfAccepted k m key w) where
 
   -- and the k-mers have room behind them
   pub kmers-fit : (n : ℕ) {at : ℕ} {ks old room : List ℕ} → 664 ≤ length old → ks ≡ firstKmers → length ks ≤ 16 → Laid (settings (askedOf k m key w) n) at old room
-      → KmersFit k ks (length (take (length room - at) (drop at room)))
+      → KmersFit 0 k ks (length (take (length room - at) (drop at room)))
   kmers-fit n {at} {ks} {old} {room} h q most l =
       record {
         some = a .order .kSome;
         few = a .order .kFew;
-        most = most;
+        most = omega arith;
         small = λ i j. subst (λ (l : List ℕ). getD l i 0 < 4 ^ k) (sym q) (page-small (keyed (word m key)) k (word m w) 0 16 i (subst (λ (l : List ℕ). i < length l) q j));
         fits = rw (laid-left l) (omega (arith, l .long, settings-most n));
       }

@@ -210,39 +210,39 @@ settings-length a n =
 -- ---- a line for each k-mer
 
 -- the lines of the first i k-mers are written
-pub record Going (k : ℕ) (kmers old room : List ℕ) (at i : ℕ) : Type 0 where
+pub record Going (from k : ℕ) (kmers old room : List ℕ) (at i : ℕ) : Type 0 where
   pub few : i ≤ length kmers
   pub most : at ≤ 35 * i
-  pub laid : Laid (entries 0 (map (word k) (take i kmers))) at old room
+  pub laid : Laid (entries from (map (word k) (take i kmers))) at old room
 
 -- the lines of one k-mer more
-entries-more : (k : ℕ) (kmers : List ℕ) (i : ℕ) → i < length kmers
-    → entries 0 (map (word k) (take (suc i) kmers)) ≡ entries 0 (map (word k) (take i kmers)) ++ entries i (word k (getD kmers i 0) ∷ [])
-entries-more k kmers i h =
+entries-more : (from k : ℕ) (kmers : List ℕ) (i : ℕ) → i < length kmers
+    → entries from (map (word k) (take (suc i) kmers)) ≡ entries from (map (word k) (take i kmers)) ++ entries (from + i) (word k (getD kmers i 0) ∷ [])
+entries-more from k kmers i h =
     let long : length (map (word k) (take i kmers)) ≡ i = length-map (take i kmers) (word k) ∙ length-take-le i kmers (omega arith) in
-    ap (λ (l : List ℕ). entries 0 (map (word k) l)) (take-suc kmers i 0 h)
-    ∙ ap (entries 0) (map-append (word k) (take i kmers) (getD kmers i 0 ∷ []))
-    ∙ entries-append 0 (map (word k) (take i kmers)) (word k (getD kmers i 0) ∷ [])
-    ∙ ap (λ (n : ℕ). entries 0 (map (word k) (take i kmers)) ++ entries n (word k (getD kmers i 0) ∷ [])) (omega (arith, long))
+    ap (λ (l : List ℕ). entries from (map (word k) l)) (take-suc kmers i 0 h)
+    ∙ ap (entries from) (map-append (word k) (take i kmers) (getD kmers i 0 ∷ []))
+    ∙ entries-append from (map (word k) (take i kmers)) (word k (getD kmers i 0) ∷ [])
+    ∙ ap (λ (n : ℕ). entries from (map (word k) (take i kmers)) ++ entries (from + n) (word k (getD kmers i 0) ∷ [])) long
 
-module _ {k : ℕ} {kmers old room : List ℕ} {at i : ℕ} (f : KmersFit k kmers (length old)) (g : Going k kmers old room at i) where
+module _ {from k : ℕ} {kmers old room : List ℕ} {at i : ℕ} (f : KmersFit from k kmers (length old)) (g : Going from k kmers old room at i) where
   -- what the next line asks
-  pub going-fits : i < length kmers → KmerFits i k (getD kmers i 0) (length (take (length room - at) (drop at room)))
+  pub going-fits : i < length kmers → KmerFits (from + i) k (getD kmers i 0) (length (take (length room - at) (drop at room)))
   going-fits h =
       record { soon = omega (arith, f .most); some = f .some; few = f .few; small = f .small i h; fits = rw (laid-left (g .laid)) (omega (arith, f .fits, g .most)) }
 
   -- the next line
   pub going-next : {b j : ℕ} {part : List ℕ} → j ≡ suc i → i < length kmers
-      → Laid (entries i (word k (getD kmers i 0) ∷ [])) b (take (length room - at) (drop at room)) part
-      → Going k kmers old (take at room ++ (part ++ drop (length room - at) (drop at room))) (at + b) j
+      → Laid (entries (from + i) (word k (getD kmers i 0) ∷ [])) b (take (length room - at) (drop at room)) part
+      → Going from k kmers old (take at room ++ (part ++ drop (length room - at) (drop at room))) (at + b) j
   going-next {j = j} e h l =
       record {
         few = omega arith;
-        most = omega (arith, g .most, l .long, entry-length i k (getD kmers i 0) (omega (arith, f .most)) (f .few));
-        laid = rw e (laid-as (entries-more k kmers i h) (laid-next (g .laid) l));
+        most = omega (arith, g .most, l .long, entry-length (from + i) k (getD kmers i 0) (omega (arith, f .most)) (f .few));
+        laid = rw e (laid-as (entries-more from k kmers i h) (laid-next (g .laid) l));
       }
 
 -- all lines are written
-pub going-all : {k : ℕ} {kmers old room : List ℕ} {at i : ℕ} → Going k kmers old room at i → length kmers ≤ i
-    → Laid (entries 0 (map (word k) kmers)) at old room
-going-all {k} {kmers} {i = i} g h = laid-as (ap (λ (l : List ℕ). entries 0 (map (word k) l)) (sym (take-all i kmers h))) (g .laid)
+pub going-all : {from k : ℕ} {kmers old room : List ℕ} {at i : ℕ} → Going from k kmers old room at i → length kmers ≤ i
+    → Laid (entries from (map (word k) kmers)) at old room
+going-all {from} {k} {kmers} {i = i} g h = laid-as (ap (λ (l : List ℕ). entries from (map (word k) l)) (sym (take-all i kmers h))) (g .laid)

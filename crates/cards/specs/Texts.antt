@@ -41,10 +41,10 @@ pub record KmerFits (place k kmer room : ℕ) : Type 0 where
   pub small : kmer < 4 ^ k
   pub fits : 35 ≤ room
 
--- what writing some k-mers asks: at most 16, each of k letters, and 35 bytes for each
-pub record KmersFit (k : ℕ) (kmers : List ℕ) (room : ℕ) : Type 0 where
+-- what writing some k-mers asks: places below 16, k-mers, and 35 bytes for each
+pub record KmersFit (from k : ℕ) (kmers : List ℕ) (room : ℕ) : Type 0 where
   pub some : 0 < k
   pub few : k ≤ 31
-  pub most : length kmers ≤ 16
+  pub most : from + length kmers ≤ 16
   pub small : (i : ℕ) → i < length kmers → getD kmers i 0 < 4 ^ k
   pub fits : 35 * length kmers ≤ room

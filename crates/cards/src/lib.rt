@@ -65,19 +65,18 @@ fn entry(place: u64, k: u64, kmer: u64, room: &mut [u8]) -> usize
 {
     let mut at = decimal(place, room);
     at += lettered(b" ", k, kmer, &mut room[at..]);
-    at += lay(b"\n", &mut room[at..]);
-    at
+    at + lay(b"\n", &mut room[at..])
 }
 
-// Writes a line for each k-mer.
-fn list(k: u64, kmers: &[u64], room: &mut [u8]) -> usize
-    requires { ⌜ KmersFit k (now kmers) (length (now room)) ⌝ }
-    ensures { λ r. ⌜ Laid (entries 0 (map (wordOf k) (now (kmers .entry)))) r (now (room .entry)) (now (room .exit)) ⌝ }
+// Writes a line for each of some k-mers, the first of which has place `from`.
+fn list(from: u64, k: u64, kmers: &[u64], room: &mut [u8]) -> usize
+    requires { ⌜ KmersFit from k (now kmers) (length (now room)) ⌝ }
+    ensures { λ r. ⌜ Laid (entries from (map (wordOf k) (now (kmers .entry)))) r (now (room .entry)) (now (room .exit)) ⌝ }
 {
     let mut at = 0;
     let mut i = 0;
     while i < kmers.len() {
-        at += entry(i as u64, k, kmers[i], &mut room[at..]);
+        at += entry(from + i as u64, k, kmers[i], &mut room[at..]);
         i += 1;
     }
     at
@@ -139,10 +138,10 @@ fn answer(input: &[u8], room: &mut [u8]) -> Told
     let page = shelves::page(line.k, line.m, line.key, line.word, 0, &mut kmers);
     let n = page.written as usize;
     let at = head(line.k, line.m, line.key, line.word, size.count, room);
-    let end = list(line.k, &kmers[..n], &mut room[at..]);
+    let shown = list(0, line.k, &kmers[..n], &mut room[at..]);
     Told {
         refusal: 0,
-        length: at + end,
+        length: at + shown,
     }
 }
 

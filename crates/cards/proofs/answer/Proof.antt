@@ -61,8 +61,8 @@ shown : (c : tie.After-page) → let l = c .before .before .before .before .befo
     (c .page .result .written ≤ length (c .page .last .1 .1 .1 .1 .1 .0)) × (length (c .page .last .1 .1 .1 .1 .1 .0) ≡ 16)
     × (take (c .page .result .written) (c .page .last .1 .1 .1 .1 .1 .0) ≡ map val (page (keyed (word (l .m) (l .key))) (l .k) (word (l .m) (l .word)) 0 16))
 shown c =
-    let first = first-page (shelf (c .before .before)) (replicate 16 0) refl (c .page .ensures) in
     let long : length (c .page .last .1 .1 .1 .1 .1 .0) ≡ 16 = c .page .kept .1 .1 .1 .1 .1 .0 in
+    let first = first-page (shelf (c .before .before)) (replicate 16 0) refl (c .page .ensures) in
     (omega (arith, first .0, long), long, first .1)
 
 head-requires : tie.Need-head-requires

@@ -61,8 +61,8 @@ lay-requires c κs =
     rw (laid-left (laid-next place letters))
     (omega (arith, place .long, decimal-short (start .args .place) (omega (arith, start .pre .soon)), lettered-told (ascii " ") (start .args .k) (start .args .kmer) letters, start .pre .few, start .pre .fits))
 
-add-at-2 : tie.Need-add-at-2
-add-at-2 c = search needs
+add-result : tie.Need-add-result
+add-result c = search needs
 
 same-length : tie.Need-same-length
 same-length c = search needs
@@ -89,6 +89,6 @@ entry-spec =
     part-lay-start
     part-lay-end
     lay-requires
-    add-at-2
+    add-result
     same-length
     returns)

@@ -36,7 +36,7 @@ lettered-requires c κs =
     let start = c .before .before .before .before .before .before .before .before in
     let first = c .before .before .before .before .numbered .ensures in
     let few = numbered-short (ascii "k=") (start .args .k) (omega (arith, start .pre .kFew)) first in
-    label-left 5 (start .args .m) (start .args .key) first (start .pre .mSome) (start .pre .mFew) (start .pre .keySmall) (omega (arith, start .pre .mFew, start .pre .fits))
+    label-left 5 (start .args .m) _ first (start .pre .mSome) (start .pre .mFew) (omega (arith, start .pre .keySmall, start .pre .wordSmall)) (omega (arith, start .pre .mFew, start .pre .fits))
 
 add-at : tie.Need-add-at
 add-at c = search needs
@@ -58,8 +58,8 @@ lettered-requires-2 c κs =
     let start = c .before .before .before .before .before .before .before .before .before .before .before .before .before in
     let first = c .before .before .before .before .before .before .before .before .before .numbered .ensures in
     let few = numbered-short (ascii "k=") (start .args .k) (omega (arith, start .pre .kFew)) first in
-    let key = lettered-told (ascii " key=") (start .args .m) (start .args .key) (c .before .before .before .before .lettered .ensures) in
-    label-left 6 (start .args .m) (start .args .word) (laid-next first (c .before .before .before .before .lettered .ensures)) (start .pre .mSome) (start .pre .mFew) (start .pre .wordSmall) (omega (arith, start .pre .mFew, start .pre .fits))
+    let key = lettered-told (ascii " key=") (start .args .m) _ (c .before .before .before .before .lettered .ensures) in
+    label-left 6 (start .args .m) _ (laid-next first (c .before .before .before .before .lettered .ensures)) (start .pre .mSome) (start .pre .mFew) (omega (arith, start .pre .keySmall, start .pre .wordSmall)) (omega (arith, start .pre .mFew, start .pre .fits))
 
 add-at-2 : tie.Need-add-at-2
 add-at-2 c = search needs
@@ -81,8 +81,8 @@ numbered-requires-2 c κs =
     let start = c .before .before .before .before .before .before .before .before .before .before .before .before .before .before .before .before .before .before in
     let first = c .before .before .before .before .before .before .before .before .before .before .before .before .before .before .numbered .ensures in
     let few = numbered-short (ascii "k=") (start .args .k) (omega (arith, start .pre .kFew)) first in
-    let key = lettered-told (ascii " key=") (start .args .m) (start .args .key) (c .before .before .before .before .before .before .before .before .before .lettered .ensures) in
-    let word = lettered-told (ascii " word=") (start .args .m) (start .args .word) (c .before .before .before .before .lettered2 .ensures) in
+    let key = lettered-told (ascii " key=") (start .args .m) _ (c .before .before .before .before .before .before .before .before .before .lettered .ensures) in
+    let word = lettered-told (ascii " word=") (start .args .m) _ (c .before .before .before .before .lettered2 .ensures) in
     rw (laid-left (laid-next (laid-next first (c .before .before .before .before .before .before .before .before .before .lettered .ensures)) (c .before .before .before .before .lettered2 .ensures))) (omega (arith, start .pre .mFew, start .pre .fits))
 
 add-at-3 : tie.Need-add-at-3
@@ -105,8 +105,8 @@ lay-requires c κs =
     let start = c .before .before .before .before .before .before .before .before .before .before .before .before .before .before .before .before .before .before .before .before .before .before .before in
     let first = c .before .before .before .before .before .before .before .before .before .before .before .before .before .before .before .before .before .before .before .numbered .ensures in
     let few = numbered-short (ascii "k=") (start .args .k) (omega (arith, start .pre .kFew)) first in
-    let key = lettered-told (ascii " key=") (start .args .m) (start .args .key) (c .before .before .before .before .before .before .before .before .before .before .before .before .before .before .lettered .ensures) in
-    let word = lettered-told (ascii " word=") (start .args .m) (start .args .word) (c .before .before .before .before .before .before .before .before .before .lettered2 .ensures) in
+    let key = lettered-told (ascii " key=") (start .args .m) _ (c .before .before .before .before .before .before .before .before .before .before .before .before .before .before .lettered .ensures) in
+    let word = lettered-told (ascii " word=") (start .args .m) _ (c .before .before .before .before .before .before .before .before .before .lettered2 .ensures) in
     let size = numbered-most (ascii " size=") (start .args .size) (c .before .before .before .before .numbered2 .ensures) in
     rw (laid-left (laid-next (laid-next (laid-next first (c .before .before .before .before .before .before .before .before .before .before .before .before .before .before .lettered .ensures)) (c .before .before .before .before .before .before .before .before .before .lettered2 .ensures)) (c .before .before .before .before .numbered2 .ensures))) (omega (arith, start .pre .mFew, start .pre .fits))
 

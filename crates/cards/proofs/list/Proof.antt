@@ -13,13 +13,16 @@ use Rattle.cards.proofs.list.Lts as lts
 use Rattle.cards.proofs.entry.Reads as entry-reads
 
 abbrev Inv-loop : tie.InvT-loop
-Inv-loop k kmers room₀ at₀ i₀ room at i = Going k kmers room₀ room at i
+Inv-loop from k kmers room₀ at₀ i₀ room at i = Going from k kmers room₀ room at i
 
 abbrev μ-loop : tie.MeasureT-loop
-μ-loop k kmers room₀ at₀ i₀ room at i = length kmers - i
+μ-loop from k kmers room₀ at₀ i₀ room at i = length kmers - i
 
 loop-holds : tie.Need-loop-holds Inv-loop μ-loop
 loop-holds c = record { few = omega arith; most = omega arith; laid = laid-none (c .before .before .args .room .now) }
+
+add-entry : tie.Need-add-entry Inv-loop μ-loop
+add-entry c = omega (arith, c .before .before .before .before .pre .most)
 
 mul-entry : tie.Need-mul-entry Inv-loop μ-loop
 mul-entry c = omega (arith, c .before .before .before .before .pre .most)
@@ -64,6 +67,7 @@ list-spec =
     Inv-loop
     μ-loop
     loop-holds
+    add-entry
     mul-entry
     shared-slice-read-entry
     sub-entry

@@ -52,7 +52,7 @@ malformed-requires : tie.Need-malformed-requires
 malformed-requires c κs = search needs
 
 returns : tie.Need-returns
-returns c = reads-none (cuts (c .before .before)) (c .before .if1 .taken) (c .malformed .ensures)
+returns c = reads-none (cuts (c .before .before)) (λ e. c .before .if1 .taken (omega (arith, e))) (c .malformed .ensures)
 
 read-parts-requires : tie.Need-read-parts-requires
 read-parts-requires c κs = search needs
