@@ -1,8 +1,8 @@
 -- The answer to an input, from its line, the size and the first page.
 -- Assumes nothing.
-use Prim.Native.Nat.{ℕ, zero, suc, _+_, _-_, _^_, _≤_, _<_, zero-le}
-use mathlib.Core.Bool.{Bool, true, false, cond, not}
-use mathlib.Core.List.{List, [], _∷_, _++_, map}
+use Prim.Native.Nat.{ℕ, zero, suc, _-_, _^_, _≤_, _<_, zero-le}
+use mathlib.Core.Bool.{Bool, true, false, cond}
+use mathlib.Core.List.{List, _++_, map}
 use mathlib.Core.Path.{_≡_, refl, sym, ap, ap₂, subst, _∙_}
 use native.Mathlib.Omega.{arith}
 use lib.Dec.{eqb}
@@ -21,7 +21,7 @@ use Rattle.laws.specs.Cards.{page-words, page-small}
 use Rattle.lines.specs.Answers.{Answer as Line, lined}
 use Rattle.cards.specs.Texts.{Laid, SettingsFit, KmersFit}
 use Rattle.cards.specs.Answers.{Told, askedOf, Wrote, textFor, Answers}
-use Rattle.cards.proofs.Laying.{laid-as, laid-next, laid-left, settings-length, decimal-short, decimal-most}
+use Rattle.cards.proofs.Laying.{laid-as, laid-left, settings-length, decimal-short, decimal-most}
 
 -- the line of a refusal
 refused-text : (r : ℕ) → (r ≡ 0 → ⊥) → (f : Form) (a : Asked) → cardText r f a ≡ ascii "refused " ++ decimal r ++ ascii "\n"

@@ -1,18 +1,18 @@
 -- The line of an input, and the line of three texts.
 -- Assumes nothing.
-use Prim.Native.Nat.{ℕ, suc, _+_, _-_, _*_, _≤_, _<_}
+use Prim.Native.Nat.{ℕ, _+_, _≤_}
 use mathlib.Core.Bool.{Bool, true, false, cond, not, _&&_, _||_}
-use mathlib.Core.List.{List, [], _∷_}
-use mathlib.Core.Path.{_≡_, refl, sym, ap, ap₂, subst, _∙_}
+use mathlib.Core.List.{List}
+use mathlib.Core.Path.{_≡_, refl, sym, ap, ap₂, _∙_}
 use native.Mathlib.Omega.{arith}
 use borrow.Author.Tests.{ne-eqb, eq-eqb, not-true, not-false}
 use lib.Dec.{eqb}
 use lib.ListN.{length}
-use Rattle.definitions.specs.Words.{same, val, spelled}
+use Rattle.definitions.specs.Words.{val, spelled}
 use Rattle.definitions.specs.Refusals.{refusal}
-use Rattle.definitions.specs.Outcomes.{Packed, packGrounds, packAnswer, packOutcome}
+use Rattle.definitions.specs.Outcomes.{Packed, packGrounds, packOutcome}
 use Rattle.definitions.specs.Cards.{space, feed, before, behind, Parts, parts, isNumber, numberOf, isWord, proper, wellFormed, asks, Line, readAnswer, readOutcome}
-use Rattle.laws.specs.Tests.{contrary, not-and}
+use Rattle.laws.specs.Tests.{not-and}
 use Rattle.laws.specs.RoundTrips.{pack-outcome}
 use Rattle.laws.specs.Places.{firstPlace-le}
 use Rattle.laws.specs.Accepted.{packAnswer-refusal}

@@ -4,9 +4,9 @@ use Prim.Native.Nat.{ℕ, _+_, _%_, _<_}
 use mathlib.Core.Path.{_∙_}
 use native.Mathlib.Omega.{arith}
 use borrow.Fn.Kinds.{In}
+use borrow.Fn.PlainCycle.{Measures, is, falls, and}
 use lib.ListN.{length, length-set}
 use Rattle.cards.proofs.Laying.{decimal-one, decimal-next, tenth-fits, laid-decimal-length}
-use borrow.Fn.PlainCycle.{Measures, is, falls, and}
 use Rattle.cards.proofs.decimal.Reads as decimal
 use Rattle.cards.proofs.decimal.Kinds as decimal-kinds
 use Rattle.cards.proofs.+decimal.Lts-decimal as decimal-lts

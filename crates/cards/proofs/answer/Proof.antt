@@ -2,8 +2,9 @@
 -- Assumes nothing.
 use Prim.Native.Nat.{_≤_}
 use mathlib.Core.List.{map}
-use mathlib.Core.Path.{_≡_, refl, sym, ap, _∙_}
+use mathlib.Core.Path.{_≡_, refl, sym}
 use native.Mathlib.Omega.{arith}
+use borrow.Author.Needs.{needs}
 use lib.ListN.{length, take, replicate}
 use lib.Seq.{length-take-le}
 use Rattle.definitions.specs.Words.{word, val}
@@ -12,18 +13,8 @@ use Rattle.definitions.specs.Shelves.{page}
 use Rattle.laws.specs.Accepted.{ShelfAccepted}
 use Rattle.cards.proofs.Laying.{laid-next, laid-most}
 use Rattle.cards.proofs.Answering.{accepted, answer-refused, answer-shown, first-page, settings-fit, kmers-fit}
-use borrow.Author.Needs.{needs}
 use Rattle.cards.proofs.answer.Statement.{statement}
 use Rattle.cards.proofs.answer.Tie as tie
-use Rattle.cards.proofs.answer.Reads as reads
-use Rattle.cards.proofs.answer.Lts as lts
-use Rattle.cards.proofs.first.Reads as first-reads
-use Rattle.cards.proofs.head.Reads as head-reads
-use Rattle.cards.proofs.list.Reads as list-reads
-use Rattle.lines.proofs.read.Reads as read-reads
-use Rattle.cards.proofs.refused.Reads as refused-reads
-use Rattle.shelves.proofs.page.Reads as page-reads
-use Rattle.worksheets.proofs.size.Reads as size-reads
 
 read-requires : tie.Need-read-requires
 read-requires c κs = search needs

@@ -1,14 +1,11 @@
 -- `cards::card` meets its contract.
 -- Assumes nothing.
 use native.Mathlib.Omega.{arith}
+use borrow.Author.Needs.{needs}
 use Rattle.cards.proofs.Laying.{laid-most, laid-length}
 use Rattle.cards.proofs.Answering.{card-is}
-use borrow.Author.Needs.{needs}
 use Rattle.cards.proofs.card.Statement.{statement}
 use Rattle.cards.proofs.card.Tie as tie
-use Rattle.cards.proofs.card.Reads as reads
-use Rattle.cards.proofs.card.Lts as lts
-use Rattle.cards.proofs.answer.Reads as answer-reads
 
 slice-aggregate-answer : tie.Need-slice-aggregate-answer
 slice-aggregate-answer c = search needs

@@ -1,17 +1,12 @@
 -- `cards::entry` meets its contract.
 -- Assumes nothing.
 use native.Mathlib.Omega.{arith}
+use borrow.Author.Needs.{needs}
 use Rattle.definitions.specs.Words.{word}
 use Rattle.definitions.specs.Cards.{ascii}
 use Rattle.cards.proofs.Laying.{laid-next, laid-as, laid-left, laid-length, laid-most, laid-decimal, decimal-short, label-left, lettered-told, entry-parts}
-use borrow.Author.Needs.{needs}
 use Rattle.cards.proofs.entry.Statement.{statement}
 use Rattle.cards.proofs.entry.Tie as tie
-use Rattle.cards.proofs.entry.Reads as reads
-use Rattle.cards.proofs.entry.Lts as lts
-use Rattle.cards.proofs.decimal.Reads as decimal-reads
-use Rattle.cards.proofs.lay.Reads as lay-reads
-use Rattle.cards.proofs.lettered.Reads as lettered-reads
 
 decimal-requires : tie.Need-decimal-requires
 decimal-requires c κs = omega (arith, c .before .before .pre .fits)

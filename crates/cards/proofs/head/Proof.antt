@@ -1,17 +1,12 @@
 -- `cards::head` meets its contract.
 -- Assumes nothing.
 use native.Mathlib.Omega.{arith}
+use borrow.Author.Needs.{needs}
 use Rattle.definitions.specs.Cards.{ascii}
 use Rattle.cards.specs.Answers.{askedOf}
 use Rattle.cards.proofs.Laying.{laid-next, laid-as, laid-left, laid-length, laid-most, label-left, lettered-told, numbered-short, numbered-most, settings-parts}
-use borrow.Author.Needs.{needs}
 use Rattle.cards.proofs.head.Statement.{statement}
 use Rattle.cards.proofs.head.Tie as tie
-use Rattle.cards.proofs.head.Reads as reads
-use Rattle.cards.proofs.head.Lts as lts
-use Rattle.cards.proofs.lay.Reads as lay-reads
-use Rattle.cards.proofs.lettered.Reads as lettered-reads
-use Rattle.cards.proofs.numbered.Reads as numbered-reads
 
 slice-aggregate-numbered : tie.Need-slice-aggregate-numbered
 slice-aggregate-numbered c = search needs

@@ -1,15 +1,11 @@
 -- `cards::lettered` meets its contract.
 -- Assumes nothing.
 use native.Mathlib.Omega.{arith}
+use borrow.Author.Needs.{needs}
 use Rattle.words.specs.Answers.{unpacked}
 use Rattle.cards.proofs.Laying.{laid-next, laid-letters, laid-most, word-left}
-use borrow.Author.Needs.{needs}
 use Rattle.cards.proofs.lettered.Statement.{statement}
 use Rattle.cards.proofs.lettered.Tie as tie
-use Rattle.cards.proofs.lettered.Reads as reads
-use Rattle.cards.proofs.lettered.Lts as lts
-use Rattle.cards.proofs.lay.Reads as lay-reads
-use Rattle.words.proofs.unpack.Reads as unpack-reads
 
 returns : tie.Need-returns
 returns c =

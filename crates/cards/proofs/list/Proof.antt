@@ -3,14 +3,11 @@
 use Prim.Native.Nat.{_-_}
 use native.Mathlib.Omega.{arith}
 use native.Mathlib.Numerals.{add-one}
-use lib.ListN.{length}
 use borrow.Author.Needs.{needs}
+use lib.ListN.{length}
 use Rattle.cards.proofs.Laying.{Going, laid-none, laid-length, laid-most, going-fits, going-next, going-all}
 use Rattle.cards.proofs.list.Statement.{statement}
 use Rattle.cards.proofs.list.Tie as tie
-use Rattle.cards.proofs.list.Reads as reads
-use Rattle.cards.proofs.list.Lts as lts
-use Rattle.cards.proofs.entry.Reads as entry-reads
 
 abbrev Inv-loop : tie.InvT-loop
 Inv-loop from k kmers room₀ at₀ i₀ room at i = Going from k kmers room₀ room at i

@@ -1,14 +1,10 @@
 -- `cards::numbered` meets its contract.
 -- Assumes nothing.
 use native.Mathlib.Omega.{arith}
-use Rattle.cards.proofs.Laying.{laid-next, laid-decimal, laid-most}
 use borrow.Author.Needs.{needs}
+use Rattle.cards.proofs.Laying.{laid-next, laid-decimal, laid-most}
 use Rattle.cards.proofs.numbered.Statement.{statement}
 use Rattle.cards.proofs.numbered.Tie as tie
-use Rattle.cards.proofs.numbered.Reads as reads
-use Rattle.cards.proofs.numbered.Lts as lts
-use Rattle.cards.proofs.decimal.Reads as decimal-reads
-use Rattle.cards.proofs.lay.Reads as lay-reads
 
 returns : tie.Need-returns
 returns c =

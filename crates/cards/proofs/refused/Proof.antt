@@ -1,16 +1,12 @@
 -- `cards::refused` meets its contract.
 -- Assumes nothing.
-use native.Mathlib.Omega.{arith}
 use mathlib.Core.Path.{refl}
+use native.Mathlib.Omega.{arith}
+use borrow.Author.Needs.{needs}
 use Rattle.definitions.specs.Cards.{ascii}
 use Rattle.cards.proofs.Laying.{laid-next, laid-left, numbered-most}
-use borrow.Author.Needs.{needs}
 use Rattle.cards.proofs.refused.Statement.{statement}
 use Rattle.cards.proofs.refused.Tie as tie
-use Rattle.cards.proofs.refused.Reads as reads
-use Rattle.cards.proofs.refused.Lts as lts
-use Rattle.cards.proofs.lay.Reads as lay-reads
-use Rattle.cards.proofs.numbered.Reads as numbered-reads
 
 returns : tie.Need-returns
 returns c = record { refusal = refl; laid = laid-next (c .before .before .before .before .before .before .before .numbered .ensures) (c .before .before .lay .ensures) }

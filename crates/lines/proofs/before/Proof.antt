@@ -1,13 +1,11 @@
 -- `lines::before` meets its contract.
 -- Assumes nothing.
+use Prim.Native.Nat.{ℕ}
 use mathlib.Core.Path.{_≡_, sym, ap, _∙_}
-use lib.Dec.{eqb}
-use lib.ListN.{take}
+use borrow.Author.Needs.{needs}
+use lib.ListN.{take, length}
 use Rattle.definitions.specs.Cards.{before}
 use Rattle.laws.specs.Cards.{length-before}
-use borrow.Author.Needs.{needs}
-use Prim.Native.Nat.{ℕ}
-use lib.ListN.{length}
 use Rattle.lines.proofs.before.Statement.{statement}
 use Rattle.lines.proofs.before.Tie as tie
 use Rattle.lines.proofs.before.Reads as reads

@@ -1,13 +1,12 @@
 -- `lines::behind` meets its contract.
 -- Assumes nothing.
-use mathlib.Core.Path.{_≡_, sym, ap, _∙_}
+use Prim.Native.Nat.{_≤_}
 use native.Mathlib.Omega.{arith}
+use borrow.Author.Needs.{needs}
 use lib.Dec.{eqb}
 use lib.ListN.{length}
-use Prim.Native.Nat.{_≤_}
 use Rattle.laws.specs.Places.{firstPlace-le}
 use Rattle.laws.specs.Cards.{behind-part, behind-none}
-use borrow.Author.Needs.{needs}
 use Rattle.lines.proofs.behind.Statement.{statement}
 use Rattle.lines.proofs.behind.Tie as tie
 use Rattle.lines.proofs.behind.Reads as reads

@@ -2,13 +2,13 @@
 -- is left of the length.
 -- Assumes nothing.
 use Prim.Native.Nat.{_+_, _-_, _≤_}
+use mathlib.Core.Path.{_≡_}
 use native.Mathlib.Numerals.{add-one}
 use native.Mathlib.Omega.{arith}
 use borrow.Author.Needs.{needs}
 use borrow.Author.Tests.{eq-eqb, ne-eqb}
 use lib.Dec.{eqb}
 use lib.ListN.{length, getD, drop}
-use mathlib.Core.Path.{_≡_}
 use Rattle.definitions.specs.Lists.{firstPlace}
 use Rattle.laws.specs.Places.{firstPlace-look, firstPlace-end}
 use Rattle.lines.proofs.find.Statement.{statement}

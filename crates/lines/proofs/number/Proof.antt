@@ -1,13 +1,13 @@
 -- `lines::number` meets its contract.
 -- Assumes nothing.
-use mathlib.Core.Bool.{true, _&&_}
 use Prim.Native.Nat.{_<_}
+use mathlib.Core.Bool.{_&&_}
 use native.Mathlib.Omega.{arith}
 use borrow.Author.Tests.{ltb-true, lt-ltb, le-ltb}
+use borrow.Author.Needs.{needs}
 use lib.Dec.{ltb}
 use Rattle.laws.specs.Tests.{and-l, and-r}
 use Rattle.lines.proofs.Numerals.{spells-one, spells-two, spells-none}
-use borrow.Author.Needs.{needs}
 use Rattle.lines.proofs.number.Statement.{statement}
 use Rattle.lines.proofs.number.Tie as tie
 use Rattle.lines.proofs.number.Reads as reads

@@ -1,8 +1,8 @@
 -- `lines::read` meets its contract.
 -- Assumes nothing.
 use native.Mathlib.Omega.{arith}
-use Rattle.lines.proofs.Parts.{Cuts, cuts-short, reads-none, reads-whole}
 use borrow.Author.Needs.{needs}
+use Rattle.lines.proofs.Parts.{Cuts, cuts-short, reads-none, reads-whole}
 use Rattle.lines.proofs.read.Statement.{statement}
 use Rattle.lines.proofs.read.Tie as tie
 use Rattle.lines.proofs.read.Reads as reads

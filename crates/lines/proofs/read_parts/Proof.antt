@@ -1,14 +1,9 @@
 -- `lines::read_parts` meets its contract.
 -- Assumes nothing.
-use Rattle.lines.proofs.Parts.{partsOf, parts-bad, parts-good}
 use borrow.Author.Needs.{needs}
+use Rattle.lines.proofs.Parts.{partsOf, parts-bad, parts-good}
 use Rattle.lines.proofs.read_parts.Statement.{statement}
 use Rattle.lines.proofs.read_parts.Tie as tie
-use Rattle.lines.proofs.read_parts.Reads as reads
-use Rattle.lines.proofs.read_parts.Lts as lts
-use Rattle.lines.proofs.malformed.Reads as malformed-reads
-use Rattle.lines.proofs.number.Reads as number-reads
-use Rattle.words.proofs.pack.Reads as pack-reads
 
 number-requires : tie.Need-number-requires
 number-requires c κs = search needs

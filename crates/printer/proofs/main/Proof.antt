@@ -2,15 +2,10 @@
 -- Assumes nothing.
 use mathlib.Core.Path.{sym}
 use native.Mathlib.Omega.{arith}
-use lib.Seq.{length-take-le}
 use borrow.Author.Needs.{needs}
+use lib.Seq.{length-take-le}
 use Rattle.printer.proofs.main.Statement.{statement}
 use Rattle.printer.proofs.main.Tie as tie
-use Rattle.printer.proofs.main.Reads as reads
-use Rattle.printer.proofs.main.Lts as lts
-use Rattle.cards.proofs.card.Reads as card-reads
-use Rattle.io.proofs.write_all.Reads as write-all-reads
-use Rattle.printer.proofs.read_all.Reads as read-all-reads
 
 slice-aggregate-read-all : tie.Need-slice-aggregate-read-all
 slice-aggregate-read-all c = search needs

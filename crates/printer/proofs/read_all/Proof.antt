@@ -6,12 +6,6 @@ use borrow.Author.Needs.{needs}
 use lib.ListN.{length}
 use Rattle.printer.proofs.read_all.Statement.{statement}
 use Rattle.printer.proofs.read_all.Tie as tie
-use Rattle.printer.proofs.read_all.Reads as reads
-use Rattle.printer.proofs.read_all.Lts as lts
-use Rattle.io.proofs.count.Reads as count-reads
-use Rattle.libc.proofs.read.Reads as read-reads
-use Rattle.os.proofs.fail.Reads as fail-reads
-use Rattle.printer.proofs.behind.Reads as behind-reads
 
 abbrev Inv-loop : tie.InvT-loop
 Inv-loop room₀ n₀ turns₀ t7 room n turns = (n ≤ 128) × (length room ≡ 128)
