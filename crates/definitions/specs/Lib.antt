@@ -31,6 +31,12 @@
 -- Outcomes      of each operation, from all its inputs to its answer and the last contents of its room: packOutcome, unpackOutcome,
 --               vigeminOutcome, sizeOutcome, worksheetOutcome, counterOutcome, pageOutcome, scanOutcome, scanBytesOutcome,
 --               foreignSizeOutcome, foreignScanOutcome
+-- Cards         the shelf printer: the line that it reads, and the text that it prints
+--   parts, lineOf   the three texts of an input, cut at spaces and a line feed; the line of three texts
+--   wellFormed      the input is the line of its parts: k, and a key and a word equally long
+--   asks            what a line asks for: k, m, and the numbers of the key and the word
+--   decimal         a number's digits; settings and entries, the lines that are printed
+--   readOutcome, cardOutcome
 -- Cases         W1 to W12 of document 01, proved under one claim; then cases of what these do not ask
 pub mod Lists
 pub mod Words

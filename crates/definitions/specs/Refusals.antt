@@ -1,4 +1,5 @@
--- The numbers of refusal (document 01, "Numbers of refusal"): each number with its test, once. 10 is the printer's and is not here.
+-- The numbers of refusal (document 01, "Numbers of refusal"): each number with its test, once. 10, the
+-- printer's, is badLine in Cards.
 -- Assumes nothing.
 use Prim.Native.Nat.{ℕ, zero, _-_, _^_}
 use mathlib.Core.Bool.{Bool, cond, not, _||_}

@@ -7,20 +7,20 @@ use mathlib.Core.List.{List, [], _∷_, _++_, map, append-assoc, List·Memᴰ, L
 use mathlib.Core.Path.{_≡_, refl, sym, ap, ap₂, subst, _∙_}
 use native.Mathlib.Numerals.{add-one}
 use native.Mathlib.Omega.{arith}
-use borrow.Author.Tests.{eq-eqb, ne-eqb, eqb-true, not-true}
+use borrow.Author.Tests.{lt-leb, eq-eqb, ne-eqb, eqb-true, not-true}
 use lib.Dec.{eqb}
 use lib.ListN.{length, getD, take, drop, length-append, length-take, length-drop, length-map, drop-of-length-le}
 use lib.Seq.{length-take-le, take-nil, take-all, split-at, take-append-seam, drop-append-add, getD-take, getD-drop}
 use Rattle.definitions.specs.Lists.{all, firstPlace}
-use Rattle.definitions.specs.Words.{Word, Mer, same, val, word, isLetter}
+use Rattle.definitions.specs.Words.{Word, Mer, same, val, word, letterOf, isLetter, spelled}
 use Rattle.definitions.specs.Vigemins.{Form}
 use Rattle.definitions.specs.Shelves.{shelf, page}
-use Rattle.definitions.specs.Cards.{space, feed, before, behind, Parts, parts, lineOf, isDigit, isNumber, isWord, proper, wellFormed}
-use Rattle.definitions.specs.Refusals.{refusal}
+use Rattle.definitions.specs.Cards.{space, feed, before, behind, Parts, parts, lineOf, isDigit, isNumber, isWord, proper, wellFormed, asks, cardGrounds}
+use Rattle.definitions.specs.Refusals.{refusal, badLength, badM}
 use Rattle.definitions.specs.Outcomes.{packGrounds}
 use Rattle.laws.specs.Tests.{and-l, and-r, and-i, contrary, test-ext, same-eq, eq-same}
 use Rattle.laws.specs.Filters.{at-mem, mem-at, at-map}
-use Rattle.laws.specs.Numbers.{number-lt, digits-number}
+use Rattle.laws.specs.Numbers.{number-lt, digits-number, spelled-letters}
 use Rattle.laws.specs.Catalogue.{shelf-holds}
 use Rattle.laws.specs.Places.{firstPlace-holds, firstPlace-le}
 use Rattle.laws.specs.Accepted.{PackAccepted, pack-accepted}
@@ -159,6 +159,18 @@ line-formed p e =
     let third = cut-behind feed (p .word) [] (letters-other feed refl (p .word) (q .word .allLetters)) in
     let same-parts : parts (lineOf p) ≡ p = rw (line-nested p, first .0, first .1, second .0, second .1, third .0) in
     (same-parts, and-i (same (lineOf p) (lineOf (parts (lineOf p)))) (proper (parts (lineOf p))) (eq-same (ap lineOf (sym same-parts))) (ap proper same-parts ∙ e))
+
+-- of a well-formed line the operations refuse k and m alone, by 1 or 2: its key and its word have m letters each
+pub formed-refusal : (s : List ℕ) → wellFormed s ≡ true → let a = asks (parts s) in refusal (cardGrounds s) ≡ refusal (badLength (a .k) ∷ badM (a .k) (a .m) ∷ [])
+formed-refusal s e =
+    let p = parts s in
+    let q = proper-parts p (formed-line s e .1) in
+    let key = spelled-small (p .key) (q .key .allLetters) in
+    let w = subst (λ (n : ℕ). val (spelled (p .word)) < 4 ^ n) (sym (q .alike)) (spelled-small (p .word) (q .word .allLetters)) in
+    rw (e, lt-leb (4 ^ length (p .key)) (val (spelled (p .key))) key, lt-leb (4 ^ length (p .key)) (val (spelled (p .word))) w)
+  where
+    spelled-small : (t : List ℕ) → all isLetter t ≡ true → val (spelled t) < 4 ^ length t
+    spelled-small t l = subst (λ (n : ℕ). val (spelled t) < 4 ^ n) (length-map t letterOf) (number-lt 4 (spelled t) (spelled-letters t l))
 
 -- ---- the k-mers that are printed
 

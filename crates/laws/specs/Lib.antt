@@ -23,6 +23,7 @@
 -- RoundTrips                packing and unpacking lead back to each other; a scan agrees with the vigemin of each window, and the plain
 --                           counter with the worksheet
 -- Listings                  pages taken one after the other are the shelf
+-- Cards                     when a line is well formed, and how long it is then; the k-mers that are printed
 pub mod Tests
 pub mod Filters
 pub mod Places
