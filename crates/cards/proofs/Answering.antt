@@ -6,7 +6,7 @@ use mathlib.Core.List.{List, _++_, map}
 use mathlib.Core.Path.{_≡_, refl, sym, ap, ap₂, subst, _∙_}
 use native.Mathlib.Omega.{arith}
 use lib.Dec.{eqb}
-use lib.ListN.{length, getD, take, drop, length-take, length-map, replicate}
+use lib.ListN.{length, getD, take, drop, length-append, length-take, length-map, replicate}
 use lib.Seq.{take-at}
 use Rattle.definitions.specs.Lists.{over}
 use Rattle.definitions.specs.Words.{word, val}
@@ -19,9 +19,9 @@ use Rattle.laws.specs.Accepted.{ShelfAccepted, word-accepted, size-refusal, siz
 use Rattle.laws.specs.Listings.{page-outcome}
 use Rattle.laws.specs.Cards.{page-words, page-small}
 use Rattle.lines.specs.Answers.{Answer as Line, lined}
-use Rattle.cards.specs.Texts.{Laid, SettingsFit, KmersFit}
+use Rattle.cards.specs.Texts.{Laid, SettingsFit, KmersFit, keyPart, wordPart}
 use Rattle.cards.specs.Answers.{Told, askedOf, Wrote, textFor, Answers}
-use Rattle.cards.proofs.Laying.{laid-as, laid-left, settings-length, decimal-short, decimal-most}
+use Rattle.cards.proofs.Laying.{laid-as, laid-left, settings-parts, key-part-most, word-part-most}
 
 -- the line of a refusal
 refused-text : (r : ℕ) → (r ≡ 0 → ⊥) → (f : Form) (a : Asked) → cardText r f a ≡ ascii "refused " ++ decimal r ++ ascii "\n"
@@ -129,7 +129,8 @@ module _ {k m key w : ℕ} (a : ShelfAccepted k m key w) where
   -- they take at most 104 bytes
   settings-most : (n : ℕ) → length (settings (askedOf k m key w) n) ≤ 104
   settings-most n =
-      omega (arith, settings-length (askedOf k m key w) n, decimal-short k (omega (arith, a .order .kFew)), decimal-most n, a .order .mFits, a .order .kFew)
+      let few : m ≤ 31 = omega (arith, a .order .mFits, a .order .kFew) in
+      omega (arith, ap length (settings-parts (askedOf k m key w) n), length-append (keyPart k m key) (wordPart m w n), key-part-most k m key (omega (arith, a .order .kFew)) few, word-part-most m w n few)
 
   -- and the k-mers have room behind them
   pub kmers-fit : (n : ℕ) {at : ℕ} {ks old room : List ℕ} → 664 ≤ length old → ks ≡ firstKmers → length ks ≤ 16 → Laid (settings (askedOf k m key w) n) at old room

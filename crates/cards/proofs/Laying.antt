@@ -18,7 +18,7 @@ use Rattle.laws.specs.Numbers.{length-digits}
 use Rattle.laws.specs.Accepted.{UnpackAccepted}
 use Rattle.laws.specs.RoundTrips.{unpack-outcome}
 use Rattle.laws.specs.Rooms.{overTo-more, overTo-all, over-append, length-over}
-use Rattle.cards.specs.Texts.{Laid, LaidDecimal, WordFits, KmerFits, KmersFit}
+use Rattle.cards.specs.Texts.{Laid, LaidDecimal, WordFits, KmersFit, keyPart, wordPart}
 
 -- nothing is written yet
 pub laid-none : (old : List ℕ) → Laid [] 0 old old
@@ -137,13 +137,13 @@ pub length-letters : (n x : ℕ) → length (text (word n x)) ≡ n
 length-letters n x = length-map (word n x) (λ a. getD capitals a 0) ∙ length-digits 4 n x
 
 -- what is left behind a label takes a word
-pub word-left : {label : List ℕ} {a n x : ℕ} {old room : List ℕ} → Laid label a old room → WordFits (length label) n x (length old)
+pub word-left : {label : List ℕ} {a n x : ℕ} {old room : List ℕ} → Laid label a old room → WordFits (length label + n) n x (length old)
     → UnpackAccepted x n (take (length room - a) (drop a room))
 word-left l w = record { some = w .some; few = w .few; small = w .small; fits = rw (laid-left l) (omega (arith, w .fits, l .long)) }
 
 -- and a label and a word behind a text
 pub label-left : {t : List ℕ} {a : ℕ} {old room : List ℕ} (label n x : ℕ) → Laid t a old room → 0 < n → n ≤ 31 → x < 4 ^ n → a + (label + n) ≤ length old
-    → WordFits label n x (length (take (length room - a) (drop a room)))
+    → WordFits (label + n) n x (length (take (length room - a) (drop a room)))
 label-left label n x l some few small fits = record { some = some; few = few; small = small; fits = rw (laid-left l) (omega arith) }
 
 -- what unpacking wrote
@@ -180,31 +180,27 @@ entries-append p (x ∷ xs) ys =
     ap (λ (l : List ℕ). (decimal p ++ ascii " " ++ text x ++ ascii "\n") ++ l) (entries-append (suc p) xs ys)
     ∙ rw (add-suc p (length xs), suc-add) (sym (append-assoc (decimal p ++ ascii " " ++ text x ++ ascii "\n") (entries (suc p) xs) (entries (suc (p + length xs)) ys)))
 
--- texts in a row, put together by twos
-by-twos : (a b c d e f g h : List ℕ) → a ++ b ++ c ++ d ++ e ++ f ++ g ++ h ≡ (((a ++ b) ++ (c ++ d)) ++ (e ++ f)) ++ (g ++ h)
-by-twos a b c d e f g h =
-    ap (λ (l : List ℕ). l ++ e ++ f ++ g ++ h) (append-assoc (a ++ b) c d)
-    ∙ ap (λ (l : List ℕ). l ++ g ++ h) (append-assoc ((a ++ b) ++ (c ++ d)) e f)
-    ∙ append-assoc (((a ++ b) ++ (c ++ d)) ++ (e ++ f)) g h
+-- texts in a row, put together as they are written
+in-parts : (a b c d e f g h i : List ℕ) → a ++ b ++ c ++ d ++ e ++ f ++ g ++ h ++ i ≡ ((a ++ b) ++ (c ++ d)) ++ (((e ++ f) ++ (g ++ h)) ++ i)
+in-parts a b c d e f g h i =
+    ap (λ (l : List ℕ). l ++ e ++ f ++ g ++ h ++ i) (append-assoc (a ++ b) c d)
+    ∙ ap (λ (l : List ℕ). l ++ g ++ h ++ i) (append-assoc ((a ++ b) ++ (c ++ d)) e f)
+    ∙ ap (λ (l : List ℕ). l ++ i) (append-assoc (((a ++ b) ++ (c ++ d)) ++ (e ++ f)) g h ∙ append-assoc ((a ++ b) ++ (c ++ d)) (e ++ f) (g ++ h))
+    ∙ append-assoc ((a ++ b) ++ (c ++ d)) ((e ++ f) ++ (g ++ h)) i
 
 -- the line of the settings, cut as it is written
-pub settings-parts : (a : Asked) (n : ℕ) → settings a n
-    ≡ ((((ascii "k=" ++ decimal (a .k)) ++ (ascii " key=" ++ text (word (a .m) (a .key)))) ++ (ascii " word=" ++ text (word (a .m) (a .word)))) ++ (ascii " size=" ++ decimal n)) ++ ascii "\n"
+pub settings-parts : (a : Asked) (n : ℕ) → settings a n ≡ keyPart (a .k) (a .m) (a .key) ++ wordPart (a .m) (a .word) n
 settings-parts a n =
-    ap (λ (l : List ℕ). l ++ ascii "\n")
-    (by-twos (ascii "k=") (decimal (a .k)) (ascii " key=") (text (word (a .m) (a .key))) (ascii " word=") (text (word (a .m) (a .word))) (ascii " size=") (decimal n))
+    in-parts (ascii "k=") (decimal (a .k)) (ascii " key=") (text (word (a .m) (a .key))) (ascii " word=") (text (word (a .m) (a .word))) (ascii " size=") (decimal n) (ascii "\n")
 
-length-five : (a b c d e : List ℕ) → length ((((a ++ b) ++ c) ++ d) ++ e) ≡ length a + length b + length c + length d + length e
-length-five a b c d e = omega (arith, length-append (((a ++ b) ++ c) ++ d) e, length-append ((a ++ b) ++ c) d, length-append (a ++ b) c, length-append a b)
+-- how long its parts are
+pub key-part-most : (k m key : ℕ) → k < 100 → m ≤ 31 → length (keyPart k m key) ≤ 40
+key-part-most k m key h l =
+    omega (arith, length-append (ascii "k=" ++ decimal k) (ascii " key=" ++ text (word m key)), decimal-short k h, length-letters m key)
 
--- how long it is
-pub settings-length : (a : Asked) (n : ℕ) → length (settings a n) ≡ 20 + (length (decimal (a .k)) + (2 * a .m) + length (decimal n))
-settings-length a n =
-    let first = ascii "k=" ++ decimal (a .k) in
-    let key = ascii " key=" ++ text (word (a .m) (a .key)) in
-    let w = ascii " word=" ++ text (word (a .m) (a .word)) in
-    let last = ascii " size=" ++ decimal n in
-    omega (arith, ap length (settings-parts a n), length-five first key w last (ascii "\n"), length-letters (a .m) (a .key), length-letters (a .m) (a .word))
+pub word-part-most : (m w n : ℕ) → m ≤ 31 → length (wordPart m w n) ≤ 64
+word-part-most m w n l =
+    omega (arith, length-append ((ascii " word=" ++ text (word m w)) ++ (ascii " size=" ++ decimal n)) (ascii "\n"), length-append (ascii " word=" ++ text (word m w)) (ascii " size=" ++ decimal n), decimal-most n, length-letters m w)
 
 -- ---- a line for each k-mer
 
@@ -226,9 +222,9 @@ entries-more from k kmers i h =
 
 module _ {from k : ℕ} {kmers old room : List ℕ} {at i : ℕ} (f : KmersFit from k kmers (length old)) (g : Going from k kmers old room at i) where
   -- what the next line asks
-  pub going-fits : i < length kmers → KmerFits (from + i) k (getD kmers i 0) (length (take (length room - at) (drop at room)))
+  pub going-fits : i < length kmers → (from + i < 16) × WordFits 35 k (getD kmers i 0) (length (take (length room - at) (drop at room)))
   going-fits h =
-      record { soon = omega (arith, f .most); some = f .some; few = f .few; small = f .small i h; fits = rw (laid-left (g .laid)) (omega (arith, f .fits, g .most)) }
+      (omega (arith, f .most), record { some = f .some; few = f .few; small = f .small i h; fits = rw (laid-left (g .laid)) (omega (arith, f .fits, g .most)) })
 
   -- the next line
   pub going-next : {b j : ℕ} {part : List ℕ} → j ≡ suc i → i < length kmers

@@ -2,12 +2,12 @@
 ghost use mathlib.Core.Path.{_≡_};
 ghost use mathlib.Core.Bool.{cond};
 ghost use mathlib.Core.List.{[], _∷_, _++_, map};
-ghost use Prim.Native.Nat.{_≤_, _+_};
+ghost use Prim.Native.Nat.{_≤_, _<_, _+_};
 ghost use lib.Dec.{eqb};
 ghost use lib.ListN.{length};
 ghost use Rattle.definitions.specs.Words.{word as wordOf, text as written};
 ghost use Rattle.definitions.specs.Cards.{ascii, decimal as decimalText, entries, settings, cardOutcome};
-ghost use Rattle.cards.specs.Texts.{Laid, LaidDecimal, WordFits, SettingsFit, KmerFits, KmersFit};
+ghost use Rattle.cards.specs.Texts.{Laid, LaidDecimal, WordFits, SettingsFit, KmersFit, keyPart, wordPart};
 ghost use Rattle.cards.specs.Answers.{printed, askedOf, Wrote, Answers};
 
 // ---- the text that is written, part by part, each at the front of the room that is left
@@ -50,7 +50,7 @@ fn numbered(label: &[u8], number: u64, room: &mut [u8]) -> usize
 
 // Writes a label and the letters of a word.
 fn lettered(label: &[u8], n: u64, word: u64, room: &mut [u8]) -> usize
-    requires { ⌜ WordFits (length (now label)) n word (length (now room)) ⌝ }
+    requires { ⌜ WordFits (length (now label) + n) n word (length (now room)) ⌝ }
     ensures { λ r. ⌜ Laid (now (label .entry) ++ written (wordOf n word)) r (now (room .entry)) (now (room .exit)) ⌝ }
 {
     let at = lay(label, room);
@@ -60,7 +60,7 @@ fn lettered(label: &[u8], n: u64, word: u64, room: &mut [u8]) -> usize
 
 // Writes the line of a k-mer: its place and its letters.
 fn entry(place: u64, k: u64, kmer: u64, room: &mut [u8]) -> usize
-    requires { ⌜ KmerFits place k kmer (length (now room)) ⌝ }
+    requires { ⌜ (place < 16) × WordFits 35 k kmer (length (now room)) ⌝ }
     ensures { λ r. ⌜ Laid (entries place (wordOf k kmer ∷ [])) r (now (room .entry)) (now (room .exit)) ⌝ }
 {
     let mut at = decimal(place, room);
@@ -82,17 +82,33 @@ fn list(from: u64, k: u64, kmers: &[u64], room: &mut [u8]) -> usize
     at
 }
 
+// Writes k and the key.
+fn key_part(k: u64, m: u64, key: u64, room: &mut [u8]) -> usize
+    requires { ⌜ (k ≤ 31) × WordFits 40 m key (length (now room)) ⌝ }
+    ensures { λ r. ⌜ Laid (keyPart k m key) r (now (room .entry)) (now (room .exit)) ⌝ }
+{
+    let at = numbered(b"k=", k, room);
+    at + lettered(b" key=", m, key, &mut room[at..])
+}
+
+// Writes the word and the size, and ends the line.
+fn word_part(m: u64, word: u64, size: u64, room: &mut [u8]) -> usize
+    requires { ⌜ WordFits 64 m word (length (now room)) ⌝ }
+    ensures { λ r. ⌜ Laid (wordPart m word size) r (now (room .entry)) (now (room .exit)) ⌝ }
+{
+    let mut at = lettered(b" word=", m, word, room);
+    at += numbered(b" size=", size, &mut room[at..]);
+    at += lay(b"\n", &mut room[at..]);
+    at
+}
+
 // Writes the line of the settings and the size.
 fn head(k: u64, m: u64, key: u64, word: u64, size: u64, room: &mut [u8]) -> usize
     requires { ⌜ SettingsFit k m key word (length (now room)) ⌝ }
     ensures { λ r. ⌜ Laid (settings (askedOf k m key word) size) r (now (room .entry)) (now (room .exit)) ⌝ }
 {
-    let mut at = numbered(b"k=", k, room);
-    at += lettered(b" key=", m, key, &mut room[at..]);
-    at += lettered(b" word=", m, word, &mut room[at..]);
-    at += numbered(b" size=", size, &mut room[at..]);
-    at += lay(b"\n", &mut room[at..]);
-    at
+    let at = key_part(k, m, key, room);
+    at + word_part(m, word, size, &mut room[at..])
 }
 
 // ---- the answer

@@ -9,7 +9,7 @@ use Rattle.cards.proofs.entry.Statement.{statement}
 use Rattle.cards.proofs.entry.Tie as tie
 
 decimal-requires : tie.Need-decimal-requires
-decimal-requires c κs = omega (arith, c .before .before .pre .fits)
+decimal-requires c κs = omega (arith, c .before .before .pre .1 .fits)
 
 slice-aggregate-lettered : tie.Need-slice-aggregate-lettered
 slice-aggregate-lettered c = search needs
@@ -30,8 +30,8 @@ lettered-requires : tie.Need-lettered-requires
 lettered-requires c κs =
     let start = c .before .before .before .before .before .before .before in
     let place = laid-decimal (start .good .0 .1) (c .before .before .before .before .decimal .ensures) in
-    label-left 1 (start .args .k) (start .args .kmer) place (start .pre .some) (start .pre .few) (start .pre .small)
-    (omega (arith, place .long, decimal-short (start .args .place) (omega (arith, start .pre .soon)), start .pre .few, start .pre .fits))
+    label-left 1 (start .args .k) (start .args .kmer) place (start .pre .1 .some) (start .pre .1 .few) (start .pre .1 .small)
+    (omega (arith, place .long, decimal-short (start .args .place) (omega (arith, start .pre .0)), start .pre .1 .few, start .pre .1 .fits))
 
 add-at : tie.Need-add-at
 add-at c = search needs
@@ -54,7 +54,7 @@ lay-requires c κs =
     let place = laid-decimal (start .good .0 .1) (c .before .before .before .before .before .before .before .before .before .decimal .ensures) in
     let letters = c .before .before .before .before .lettered .ensures in
     rw (laid-left (laid-next place letters))
-    (omega (arith, place .long, decimal-short (start .args .place) (omega (arith, start .pre .soon)), lettered-told (ascii " ") (start .args .k) (start .args .kmer) letters, start .pre .few, start .pre .fits))
+    (omega (arith, place .long, decimal-short (start .args .place) (omega (arith, start .pre .0)), lettered-told (ascii " ") (start .args .k) (start .args .kmer) letters, start .pre .1 .few, start .pre .1 .fits))
 
 add-result : tie.Need-add-result
 add-result c = search needs
