@@ -11,10 +11,10 @@ use lib.Dec.{ltb}
 use lib.ListN.{length, getD, set, take, drop, length-append, length-drop, length-map, drop-of-length-le}
 use lib.Seq.{take-all, take-suc, length-take-le, take-append-seam, getD-at}
 use Rattle.definitions.specs.Lists.{over}
-use Rattle.definitions.specs.Words.{Word, word, text, capitals}
+use Rattle.definitions.specs.Words.{Word, word, text}
 use Rattle.definitions.specs.Outcomes.{Unpacked, unpackOutcome}
 use Rattle.definitions.specs.Cards.{Asked, ascii, decimalIn, decimal, settings, entries}
-use Rattle.laws.specs.Numbers.{length-digits}
+use Rattle.laws.specs.Numbers.{length-text}
 use Rattle.laws.specs.Accepted.{UnpackAccepted}
 use Rattle.laws.specs.RoundTrips.{unpack-outcome}
 use Rattle.laws.specs.Rooms.{overTo-more, overTo-all, over-append, length-over}
@@ -132,10 +132,6 @@ decimal-most x = decimal-length 20 x
 
 -- ---- words
 
--- a word has as many letters as its text has bytes
-pub length-letters : (n x : ℕ) → length (text (word n x)) ≡ n
-length-letters n x = length-map (word n x) (λ a. getD capitals a 0) ∙ length-digits 4 n x
-
 -- what is left behind a label takes a word
 pub word-left : {label : List ℕ} {a n x : ℕ} {old room : List ℕ} → Laid label a old room → WordFits (length label + n) n x (length old)
     → UnpackAccepted x n (take (length room - a) (drop a room))
@@ -150,7 +146,7 @@ label-left label n x l some few small fits = record { some = some; few = few; sm
 pub laid-letters : {x n : ℕ} {old : List ℕ} (o : Unpacked) → UnpackAccepted x n old → o ≡ unpackOutcome x n old → Laid (text (word n x)) (o .written) old (o .room)
 laid-letters {x} {n} o a e =
     let is = e ∙ unpack-outcome a in
-    record { long = ap (λ (u : Unpacked). u .written) is ∙ sym (length-letters n x); fits = rw length-letters (a .fits); front = ap (λ (u : Unpacked). u .room) is }
+    record { long = ap (λ (u : Unpacked). u .written) is ∙ sym (length-text n x); fits = rw length-text (a .fits); front = ap (λ (u : Unpacked). u .room) is }
 
 -- how much a label and a number, or a label and a word, take
 pub numbered-most : (label : List ℕ) (x : ℕ) {n : ℕ} {old room : List ℕ} → Laid (label ++ decimal x) n old room → n ≤ length label + 20
@@ -160,7 +156,7 @@ pub numbered-short : (label : List ℕ) (x : ℕ) {n : ℕ} {old room : List ℕ
 numbered-short label x h l = omega (arith, l .long, length-append label (decimal x), decimal-short x h)
 
 pub lettered-told : (label : List ℕ) (n x : ℕ) {a : ℕ} {old room : List ℕ} → Laid (label ++ text (word n x)) a old room → a ≡ length label + n
-lettered-told label n x l = omega (arith, l .long, length-append label (text (word n x)), length-letters n x)
+lettered-told label n x l = omega (arith, l .long, length-append label (text (word n x)), length-text n x)
 
 -- ---- lines
 
@@ -171,7 +167,7 @@ entry-parts p x = append-nil (decimal p ++ ascii " " ++ text x ++ ascii "\n") �
 -- it has at most 35 bytes
 pub entry-length : (p k x : ℕ) → p < 16 → k ≤ 31 → length (entries p (word k x ∷ [])) ≤ 35
 entry-length p k x h l =
-    rw (entry-parts, length-append, length-append, length-append, length-letters) (omega (arith, decimal-short p (omega arith)))
+    rw (entry-parts, length-append, length-append, length-append, length-text) (omega (arith, decimal-short p (omega arith)))
 
 -- lines in a row
 pub entries-append : (p : ℕ) (xs ys : List Word) → entries p (xs ++ ys) ≡ entries p xs ++ entries (p + length xs) ys
@@ -196,11 +192,11 @@ settings-parts a n =
 -- how long its parts are
 pub key-part-most : (k m key : ℕ) → k < 100 → m ≤ 31 → length (keyPart k m key) ≤ 40
 key-part-most k m key h l =
-    omega (arith, length-append (ascii "k=" ++ decimal k) (ascii " key=" ++ text (word m key)), decimal-short k h, length-letters m key)
+    omega (arith, length-append (ascii "k=" ++ decimal k) (ascii " key=" ++ text (word m key)), decimal-short k h, length-text m key)
 
 pub word-part-most : (m w n : ℕ) → m ≤ 31 → length (wordPart m w n) ≤ 64
 word-part-most m w n l =
-    omega (arith, length-append ((ascii " word=" ++ text (word m w)) ++ (ascii " size=" ++ decimal n)) (ascii "\n"), length-append (ascii " word=" ++ text (word m w)) (ascii " size=" ++ decimal n), decimal-most n, length-letters m w)
+    omega (arith, length-append ((ascii " word=" ++ text (word m w)) ++ (ascii " size=" ++ decimal n)) (ascii "\n"), length-append (ascii " word=" ++ text (word m w)) (ascii " size=" ++ decimal n), decimal-most n, length-text m w)
 
 -- ---- a line for each k-mer
 

@@ -11,7 +11,7 @@ use lib.Arith.{digits-lt, digits-mod, digits-div, mod-mul}
 use lib.Pow.{pow-add}
 use lib.Bits.{bitXor, bitAnd, and-mask, xor-lt, xor-zero-r, xor-block}
 use lib.Dec.{ltb, leb, eqb, leb·suc-suc}
-use lib.ListN.{length, take, drop, getD, length-append}
+use lib.ListN.{length, take, drop, getD, length-append, length-map}
 use Rattle.definitions.specs.Lists.{all, tabulate}
 use Rattle.definitions.specs.Words.{Word, letters, Digits, Letters, number, digits, val, word, sum, _⊕_, capitals, letterOf, isLetter, spelled, text}
 use Rattle.definitions.specs.Vigemins.{keyed, value, below}
@@ -295,6 +295,10 @@ letter-read {a} h = eqb-true (letterOf (getD capitals a 0)) a (each-letter (λ x
 pub spelled-text : (x : Word) → Letters x → spelled (text x) ≡ x
 spelled-text [] h = refl
 spelled-text (a ∷ x) h = ap₂ (λ (c : ℕ) (y : Word). c ∷ y) (letter-read (h .0)) (spelled-text x (h .1))
+
+-- the text of a word of n letters has n bytes
+pub length-text : (n x : ℕ) → length (text (word n x)) ≡ n
+length-text n x = length-map (word n x) (λ a. getD capitals a 0) ∙ length-digits 4 n x
 
 -- a byte that is a letter is what this letter is written as
 pub letter-written : {c : ℕ} → isLetter c ≡ true → getD capitals (letterOf c) 0 ≡ c

@@ -17,7 +17,7 @@ use Rattle.definitions.specs.Shelves.{antemers, row}
 use Rattle.definitions.specs.Refusals.{refusal}
 use Rattle.definitions.specs.Outcomes.{Packed, packGrounds, packAnswer, packOutcome, unpackGrounds, unpackAnswer, unpackOutcome, vigeminAnswer, vigeminOutcome, worksheetAnswer, worksheetOutcome, counterGrounds, counterAnswer, counterOutcome, scanGrounds, scanAnswer, scanOutcome}
 use Rattle.laws.specs.Filters.{tabulate-at}
-use Rattle.laws.specs.Numbers.{four-pos, number-lt, length-digits, digits-below, number-digits-lt, digits-number, spelled-text, text-spelled, spelled-letters, text-letters}
+use Rattle.laws.specs.Numbers.{four-pos, number-lt, digits-below, number-digits-lt, digits-number, spelled-text, text-spelled, spelled-letters, text-letters, length-text}
 use Rattle.laws.specs.Minima.{length-stretch, all-stretch, map-stretch, length-windows}
 use Rattle.laws.specs.Scans.{length-scan, scan-at, scan-inside, scan-word}
 use Rattle.laws.specs.Accepted.{PackAccepted, pack-accepted, accepted-pack, UnpackAccepted, unpack-accepted, accepted-unpack, VigeminAccepted, accepted-word, counter-accepted, accepted-counter, counterAnswer-refusal, ScanAccepted, scan-accepted, accepted-scan, packAnswer-refusal, unpackAnswer-refusal, scanAnswer-refusal}
@@ -91,7 +91,7 @@ pack-unpack x n room z =
     l = digits-below four-pos n x
 
     long : length (text (word n x)) ≡ n
-    long = length-map (word n x) _ ∙ length-digits 4 n x
+    long = length-text n x
 
     b : PackAccepted (text (word n x))
     b = record { some = rw long (a .some); few = rw long (a .few); allLetters = text-letters (word n x) l }

@@ -7,17 +7,13 @@ use mathlib.Core.Path.{_≡_, sym, ap, _∙_}
 use native.Mathlib.Numerals.{add-one}
 use native.Mathlib.Omega.{arith}
 use borrow.Author.Needs.{needs}
-use lib.ListN.{length, getD, length-map}
+use lib.ListN.{length, getD}
 use Rattle.definitions.specs.Words.{capitals, word, text}
 use Rattle.laws.specs.Filters.{at-map}
-use Rattle.laws.specs.Numbers.{four-pow, length-digits, digits-at}
+use Rattle.laws.specs.Numbers.{four-pow, length-digits, digits-at, length-text}
 use Rattle.laws.specs.Rooms.{overTo, length-overTo, overTo-more, overTo-all}
 use Rattle.words.proofs.write.Statement.{statement}
 use Rattle.words.proofs.write.Tie as tie
-
--- a text of n letters
-length-letters : (n x : ℕ) → length (text (word n x)) ≡ n
-length-letters n x = length-map (word n x) (λ a. getD capitals a 0) ∙ length-digits 4 n x
 
 -- the byte at a place with j letters behind it
 letter-at : (n x i j : ℕ) → suc (i + j) ≡ n → getD (text (word n x)) i 0 ≡ getD capitals (x / 2 ^ (2 * j) % 4) 0
@@ -27,7 +23,7 @@ letter-at n x i j e =
 
 -- the room keeps its length
 kept : (n x : ℕ) (old room : List ℕ) {i : ℕ} → n ≤ length old → i ≤ n → room ≡ overTo i (text (word n x)) old → length room ≡ length old
-kept n x old room {i} f h e = length-overTo (text (word n x)) old {i = i} e (rw length-letters h) (omega arith)
+kept n x old room {i} f h e = length-overTo (text (word n x)) old {i = i} e (rw length-text h) (omega arith)
 
 abbrev Inv-loop : tie.InvT-loop
 Inv-loop x n room₀ i₀ room i = (i ≤ n) × (room ≡ overTo i (text (word n x)) room₀)
@@ -72,7 +68,7 @@ loop-again c =
     let n = start .args .n in
     let x = start .args .word in
     let byte : c .capital .result ≡ getD (text (word n x)) (at .i) 0 = c .capital .ensures ∙ sym (letter-at n x (at .i) (n - 1 - at .i) (omega arith)) in
-    (omega arith, rw add-one (overTo-more (text (word n x)) (start .args .room .now) 0 (at .inv .1) byte (rw length-letters (omega arith)) (omega (arith, start .pre .fits))))
+    (omega arith, rw add-one (overTo-more (text (word n x)) (start .args .room .now) 0 (at .inv .1) byte (rw length-text (omega arith)) (omega (arith, start .pre .fits))))
 
 same-length : tie.Need-same-length Inv-loop μ-loop
 same-length c =
@@ -85,7 +81,7 @@ returns c =
     let at = c .before .loop in
     let start = c .before .before .before in
     let n = start .args .n in
-    let end : at .i ≡ length (text (word n (start .args .word))) = rw length-letters (omega arith) in
+    let end : at .i ≡ length (text (word n (start .args .word))) = rw length-text (omega arith) in
     overTo-all (text (word n (start .args .word))) (start .args .room .now) (at .inv .1) end
 
 pub write-spec : {M : Type 1} → statement M
