@@ -88,7 +88,7 @@ fn bytes_are(room: [u8; 8], bytes: &[u8]) -> bool {
 // Unpacking the setting's word as one of k letters: the refusal, how many letters are written, and the room of eight after.
 pub fn unpack(t: Tally, s: Setting, refusal: u64, written: u64, after: &[u8]) -> Tally {
     let mut lent = [b'9'; 8];
-    let room = words::lesser(s.room, 8) as usize;
+    let room = powers::lesser(s.room, 8) as usize;
     let got = words::unpack(s.word, s.k, &mut lent[..room]);
     let answered = (got.refusal == refusal) & (got.written == written);
     one(t, b"unpack", b"", s, answered & bytes_are(lent, after))
@@ -152,7 +152,7 @@ fn kmers_are(room: [u64; 5], kmers: [u64; 5]) -> bool {
 // A page: the refusal, how many k-mers are written, and the room of five after.
 pub fn page(t: Tally, s: Setting, refusal: u64, written: u64, after: [u64; 5]) -> Tally {
     let mut lent: [u64; 5] = [9; 5];
-    let room = words::lesser(s.room, 5) as usize;
+    let room = powers::lesser(s.room, 5) as usize;
     let got = shelves::page(s.k, s.m, s.key, s.word, s.start, &mut lent[..room]);
     let answered = (got.refusal == refusal) & (got.written == written);
     one(t, b"page", b"", s, answered & kmers_are(lent, after))
@@ -167,7 +167,7 @@ fn positions_are(room: [u32; 6], at: [u32; 6]) -> bool {
 // What a scan must answer: the refusal, the place of a bad letter, the number of windows, and the room of six after.
 fn scanned(t: Tally, s: Setting, seq: &[u8], answer: [u64; 3], after: [u32; 6]) -> Tally {
     let mut lent: [u32; 6] = [9; 6];
-    let room = words::lesser(s.room, 6) as usize;
+    let room = powers::lesser(s.room, 6) as usize;
     let got = scans::scan(s.k, s.m, s.key, seq, &mut lent[..room]);
     let refused = (got.refusal == answer[0]) & (got.place == answer[1]);
     let holds = refused & (got.windows == answer[2]) & positions_are(lent, after);
@@ -193,7 +193,7 @@ pub fn foreign_size(t: Tally, s: Setting, answer: u64) -> Tally {
 // The foreign scan: the one number, and the room of eight bytes after.
 pub fn foreign_scan(t: Tally, s: Setting, seq: &[u8], answer: u64, after: &[u8]) -> Tally {
     let mut lent = [b'9'; 8];
-    let room = words::lesser(s.room, 8) as usize;
+    let room = powers::lesser(s.room, 8) as usize;
     let got = tukinraso::tukinraso_scan(s.k, s.m, s.key, seq, &mut lent[..room]);
     let holds = (got == answer) & bytes_are(lent, after);
     one(t, b"foreign scan ", seq, s, holds)

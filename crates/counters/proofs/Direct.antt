@@ -19,7 +19,7 @@ use Rattle.laws.specs.Places.{anyTo, anyTo-cong}
 use Rattle.laws.specs.Numbers.{four-pos, four-pow, length-digits, digits-below, number-lt, number-digits-lt, digits-number, number-append, window-number, letters-take, letters-append, keyed-value}
 use Rattle.laws.specs.Minima.{length-windows, window-at, stretch-mer}
 use Rattle.laws.specs.Orders.{above-not}
-use Rattle.words.specs.Powers.{powerOutcome, power-four}
+use Rattle.powers.specs.Powers.{powerOutcome, power-four}
 use Rattle.counters.specs.Settings.{Served}
 use Rattle.counters.proofs.Signs.{front-number}
 

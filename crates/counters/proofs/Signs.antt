@@ -20,7 +20,7 @@ use Rattle.laws.specs.Orders.{Ranking, OneToOne, ranked, keyRanking, keyed-rank
 use Rattle.laws.specs.Prefixes.{goesOn-at}
 use Rattle.laws.specs.RulesHold.{sign-equal as equal-sign}
 use Rattle.laws.specs.Rules.{Sign, sign, isLess, isEqual, less, equal, greater, stretch, own, R, Σ}
-use Rattle.words.specs.Powers.{powerOutcome, power-four}
+use Rattle.powers.specs.Powers.{powerOutcome, power-four}
 use Rattle.counters.specs.Settings.{signed, SetTo, LetterSign}
 
 -- ---- signs

@@ -53,7 +53,7 @@ fn compared(s: Setting, i: u64, j: u64) -> u64
     ensures { λ r. ⌜ r ≡ signed (R (keyRanking (wordOf (s .m) (s .key))) (wordOf (s .m) (s .word)) i j) ⌝ }
 {
     let length = i + 1 - j;
-    let stretch = (s.word >> (2 * (s.m - i))) % words::power(length);
+    let stretch = (s.word >> (2 * (s.m - i))) % powers::power(length);
     let rest = 2 * (s.m - length);
     let first = s.word >> rest;
     let key_first = s.key >> rest;
@@ -155,7 +155,7 @@ fn whole(s: Setting, i: u64) -> u64
     requires { ⌜ i ≤ s .m ⌝ }
     ensures { λ r. ⌜ r ≡ cond (antemer (keyed (wordOf (s .m) (s .key))) (wordOf (s .m) (s .word)) (take i (wordOf (s .m) (s .word)))) 1 0 ⌝ }
 {
-    let side = words::power(s.m);
+    let side = powers::power(s.m);
     let followed = (s.word >> (2 * (s.m - i))) * side + s.word;
     let value = s.word ^ s.key;
     let mut p: u64 = 0;
@@ -174,7 +174,7 @@ fn all_prefixes(s: Setting, i: u64, n: u64) -> u64
     requires { ⌜ Served (s .m) (s .key) (s .word) n ⌝ }
     ensures { λ r. ⌜ r ≡ sharingFrom (wordOf (s .m) (s .word)) (antemer (keyed (wordOf (s .m) (s .key))) (wordOf (s .m) (s .word))) i n ⌝ }
 {
-    let last = words::lesser(s.m, n);
+    let last = powers::lesser(s.m, n);
     let mut sum: u64 = 0;
     let mut shared = i;
     while shared <= last {
@@ -224,7 +224,7 @@ pub struct Counted {
 pub fn antemers(k: u64, m: u64, key: u64, word: u64) -> Counted
     ensures { λ r. ⌜ counted r ≡ counterOutcome k m key word ⌝ }
 {
-    let refusal = words::word_refusal(k, m, key, m, word);
+    let refusal = powers::word_refusal(k, m, key, m, word);
     if refusal != 0 {
         return Counted { refusal, count: 0 };
     }

@@ -15,7 +15,7 @@ fn list_pages(k: u64, m: u64, key: u64, word: u64, each: u64, size: u64, room: &
     let mut at: u64 = 0;
     while at < size {
         let rest = room.len() as u64 - at;
-        let end = at + words::lesser(each, rest);
+        let end = at + powers::lesser(each, rest);
         let paged = shelves::page(k, m, key, word, at, &mut room[at as usize..end as usize]);
         at += paged.written;
     }
@@ -40,7 +40,7 @@ pub fn list(k: u64, m: u64, key: u64, word: u64, each: u64, room: &mut [u64]) ->
         };
     }
     let count = size.count;
-    if ((room.len() as u64) < count) | (each < words::lesser(1, count)) {
+    if ((room.len() as u64) < count) | (each < powers::lesser(1, count)) {
         return Listed {
             refusal: 7,
             written: 0,

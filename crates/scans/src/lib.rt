@@ -23,7 +23,7 @@ fn suffixes(width: u64, ring: &mut [u64; 32])
     let mut least = ring[i as usize];
     while 0 < i {
         i -= 1;
-        least = words::lesser(ring[i as usize], least);
+        least = powers::lesser(ring[i as usize], least);
         ring[i as usize] = least;
     }
 }
@@ -47,7 +47,7 @@ fn prepare(k: u64, m: u64, key: u64) -> Settings
 {
     let width = k - m + 1;
     let rest = 31 - m;
-    let side = words::power(rest) * 4;
+    let side = powers::power(rest) * 4;
     let high = key * side;
     Settings {
         k,
@@ -124,7 +124,7 @@ fn begin(s: Settings, seq: &[u8], ring: &mut [u64; 32]) -> Reading
         let place = before + at;
         let mer = next_mer(s, word, seq[place as usize], at);
         word = mer.word;
-        run = words::lesser(run, mer.stamp);
+        run = powers::lesser(run, mer.stamp);
         ring[at as usize] = mer.stamp;
         at += 1;
     }
@@ -168,9 +168,9 @@ fn step(s: Settings, r: Reading, seq: &[u8], place: u64, ring: &mut [u64; 32]) -
     let mer = next_mer(s, r.word, seq[place as usize], at);
     ring[at as usize] = mer.stamp;
     let far = mer.stamp + s.width;
-    let run = words::lesser(r.run, far);
+    let run = powers::lesser(r.run, far);
     let next = at + 1;
-    let least = words::lesser(ring[next as usize], run);
+    let least = powers::lesser(ring[next as usize], run);
     let position = r.block + (least & (s.side - 1));
     Reading {
         word: mer.word,

@@ -22,7 +22,7 @@ pub struct Examined {
 pub fn examine(k: u64, m: u64, key: u64, seq: &[u8], takes: u64) -> Examined
     ensures { λ r. ⌜ examined r ≡ examineOutcome k m key (now (seq .entry)) takes ⌝ }
 {
-    let refusal = words::order_refusal(k, m, key);
+    let refusal = powers::order_refusal(k, m, key);
     if refusal != 0 {
         return Examined {
             refusal,

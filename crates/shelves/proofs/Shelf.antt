@@ -24,7 +24,7 @@ use Rattle.laws.specs.Orders.{Ranking, ranked}
 use Rattle.laws.specs.States.{first, next, longest-le}
 use Rattle.laws.specs.Tables.{postmerOk, shelfOk, shelfStep, shelfEnd, shelf-table, shelf-full, shelf-rest}
 use Rattle.laws.specs.Bans.{postmer-ban}
-use Rattle.words.specs.Powers.{PowersAre}
+use Rattle.powers.specs.Powers.{PowersAre}
 use Rattle.states.specs.Grids.{grid-at}
 use Rattle.states.specs.Tables.{nextAt, next-entry, ban-entry}
 use Rattle.shelves.specs.Descents.{allowed, leads, met, waysFrom, completing, Live, NextsSmall, MovesOf, Tables, WaysTo, under, Listed, Descending, ShelfOf}

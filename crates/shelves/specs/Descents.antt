@@ -14,7 +14,7 @@ use Rattle.definitions.specs.Refusals.{refusal, badStart}
 use Rattle.definitions.specs.Outcomes.{pageAnswer}
 use Rattle.laws.specs.Orders.{Ranking, OneToOne, ranked}
 use Rattle.laws.specs.Walks.{accepts, ways, branch}
-use Rattle.words.specs.Powers.{PowersAre}
+use Rattle.powers.specs.Powers.{PowersAre}
 use Rattle.states.specs.Tables.{ownOf, LettersOf, LinksOf}
 use Rattle.shelves.specs.Answers.{Answer, paged}
 

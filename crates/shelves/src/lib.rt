@@ -125,7 +125,7 @@ fn run(first: u64, count: u64, room: &mut [u64]) -> usize
     requires { ⌜ first + count ≤ 4 ^ 31 ⌝ }
     ensures { λ r. ⌜ Listed (tabulate (λ i. first + i) count) 0 (now (room .entry)) (now (room .exit)) r ⌝ }
 {
-    let n = words::lesser(count, room.len() as u64);
+    let n = powers::lesser(count, room.len() as u64);
     let mut i: u64 = 0;
     while i < n {
         room[i as usize] = first + i;
@@ -274,7 +274,7 @@ fn page_by(
             written: 0,
         };
     }
-    let powers = words::powers();
+    let powers = powers::powers();
     let empty = Beginning {
         left: k,
         state: 0,

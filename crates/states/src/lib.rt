@@ -182,7 +182,7 @@ pub struct Prepared {
 pub fn prepare(k: u64, m: u64, key: u64, word: u64) -> Prepared
     ensures { λ r. ⌜ prepared r ≡ prepareOutcome k m key word ⌝ }
 {
-    let refusal = words::word_refusal(k, m, key, m, word);
+    let refusal = powers::word_refusal(k, m, key, m, word);
     if refusal != 0 {
         return Prepared {
             refusal,

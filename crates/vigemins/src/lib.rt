@@ -26,7 +26,7 @@ fn least_mer(k: u64, m: u64, key: u64, kmer: u64) -> Found
     requires { ⌜ VigeminAccepted k m key kmer ⌝ }
     ensures { λ r. ⌜ found r ≡ vigeminAnswer 0 (keyed (wordOf m key)) m (wordOf k kmer) ⌝ }
 {
-    let mask = words::power(m) - 1;
+    let mask = powers::power(m) - 1;
     let last = k - m;
     let mut word = (kmer >> (2 * last)) & mask;
     let mut least = value(word, key);
@@ -53,7 +53,7 @@ fn least_mer(k: u64, m: u64, key: u64, kmer: u64) -> Found
 pub fn vigemin(k: u64, m: u64, key: u64, kmer: u64) -> Found
     ensures { λ r. ⌜ found r ≡ vigeminOutcome k m key kmer ⌝ }
 {
-    let refusal = words::word_refusal(k, m, key, k, kmer);
+    let refusal = powers::word_refusal(k, m, key, k, kmer);
     if refusal != 0 {
         return Found {
             refusal,

@@ -1,8 +1,6 @@
 -- What the contracts of `words` speak of, beside `definitions` and `laws`.
 --
--- Powers        the power of four that the table answers, and what the table holds
 -- Letters       the code of a letter by arithmetic, and that it reads every letter right
 -- Answers       what packing and unpacking answered, as outcomes
-pub mod Powers
 pub mod Letters
 pub mod Answers

@@ -16,7 +16,7 @@ use Rattle.laws.specs.Tests.{leb-cong}
 use Rattle.laws.specs.Numbers.{four-pos}
 use Rattle.laws.specs.Bans.{never}
 use Rattle.laws.specs.Rooms.{Written}
-use Rattle.words.specs.Powers.{PowersAre}
+use Rattle.powers.specs.Powers.{PowersAre}
 use Rattle.worksheets.specs.Columns.{UpTo, leadsTo, AllowedBy, wayOf, sumOf, RowReady, FreeReady, Counts, Countable, CountedBy, Filled, Turn, TurnReady, TurnDone, Turned}
 use Rattle.worksheets.proofs.Laws.{letters-agree}
 use Rattle.worksheets.proofs.Rows.{upTo-more, upTo-none}

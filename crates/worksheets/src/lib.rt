@@ -9,7 +9,7 @@ ghost use mathlib.Core.Path.{_≡_};
 ghost use Prim.Native.Nat.{suc, _-_, _^_, _≤_, _<_};
 ghost use Rattle.definitions.specs.Outcomes.{worksheetOutcome, sizeOutcome};
 ghost use Rattle.laws.specs.Rooms.{Written};
-ghost use Rattle.words.specs.Powers.{PowersAre};
+ghost use Rattle.powers.specs.Powers.{PowersAre};
 ghost use Rattle.states.specs.Tables.{Known, All, AlphabetsOf};
 ghost use Rattle.worksheets.specs.Columns.{BansOf, MovesOf, NextsOf, StatesOf, entryOf, EntryReady, CaughtIs, EndIs, EndsAre, ReachIs, LastsIs, leadsTo, AllowedBy, wayOf, sumOf, WayReady, SumReady, RowReady, FreeReady, TurnReady, Turned, Countable, CountedBy, AntemersAre, PostmersAre, SheetIs, productSum};
 ghost use Rattle.worksheets.specs.Answers.{worked, counted};
@@ -108,7 +108,7 @@ fn lasts(m: u64, own: &[u8; 32], ban: &[u8; 128]) -> u64
     let mut j: u64 = 0;
     while j < m {
         let left = own_entry(j, j, own, ban);
-        rows = words::lesser(rows, left + j - m);
+        rows = powers::lesser(rows, left + j - m);
         j += 1;
     }
     rows
@@ -206,8 +206,8 @@ fn next_row(
     ensures { λ r. ⌜ Turned m rows (side .start) (side .follow) (side .live) done (now (allowed .entry)) (now (ways .entry)) (now (ways .exit)) r ⌝ }
 {
     let r = done + 1;
-    let free = m - words::lesser(m, r + side.follow);
-    let needed = words::lesser(side.live, side.start + rows - done);
+    let free = m - powers::lesser(m, r + side.follow);
+    let needed = powers::lesser(side.live, side.start + rows - done);
     ways_row(free, needed, done, allowed, ways);
     free_row(free, r, powers[r as usize], ways);
     ways[(r + side.start) as usize]
@@ -284,7 +284,7 @@ fn postmers(
     ensures { λ r. ⌜ All (λ ρ w. MovesOf ρ w m (now (own .entry)) (now (next .entry)) (now (ban .entry))) (λ ρ w. PostmersAre ρ w k m r) ⌝ }
 {
     let last = lasts(m, own, ban);
-    let rows = words::lesser(k - m, last - 1);
+    let rows = powers::lesser(k - m, last - 1);
     let live = m + 1;
     let mut first: [u64; 64] = [0; 64];
     free_row(live, 0, 1, &mut first);
@@ -312,7 +312,7 @@ fn sheet_of(k: u64, m: u64, s: states::States) -> Sheet
     let marks = s.marks;
     let next = s.next;
     let ban = s.ban;
-    let powers = words::powers();
+    let powers = powers::powers();
     let antemers = antemers(k, m, &own, &marks, &next, &ban, &powers);
     let postmers = postmers(k, m, &own, &next, &ban, &powers);
     Sheet { antemers, postmers }

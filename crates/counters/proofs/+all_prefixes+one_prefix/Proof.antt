@@ -27,7 +27,7 @@ use Rattle.counters.proofs.first_alphabet.Reads as first-alphabet-reads
 use Rattle.counters.proofs.least_tied.Reads as least-tied-reads
 use Rattle.counters.proofs.may_follow.Reads as may-follow-reads
 use Rattle.counters.proofs.whole.Reads as whole-reads
-use Rattle.words.proofs.lesser.Reads as lesser-reads
+use Rattle.powers.proofs.lesser.Reads as lesser-reads
 use Rattle.counters.proofs.+all_prefixes+one_prefix.{statement}
 use Rattle.counters.proofs.+all_prefixes+one_prefix.Tie.{close}
 

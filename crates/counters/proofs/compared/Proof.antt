@@ -5,7 +5,7 @@ use mathlib.Core.Path.{ap, _∙_}
 use native.Mathlib.Nat.{one-le-pow}
 use native.Mathlib.Omega.{arith}
 use Rattle.laws.specs.Numbers.{four-pos}
-use Rattle.words.specs.Powers.{power-four}
+use Rattle.powers.specs.Powers.{power-four}
 use Rattle.counters.specs.Settings.{signed}
 use Rattle.counters.proofs.Signs.{compared-sign}
 use Rattle.counters.proofs.compared.Statement.{statement}

@@ -10,7 +10,7 @@ use lib.Pow.{pow-add}
 use Rattle.laws.specs.Accepted.{OrderAccepted}
 use Rattle.laws.specs.Numbers.{four-pos, four-pow, xor-scale, twice-le-four}
 use Rattle.laws.specs.Stamps.{stamp-room}
-use Rattle.words.specs.Powers.{powerOutcome, power-four}
+use Rattle.powers.specs.Powers.{powerOutcome, power-four}
 use Rattle.scans.specs.Readings.{top, SetTo}
 use Rattle.scans.proofs.prepare.Statement.{statement}
 use Rattle.scans.proofs.prepare.Tie as tie

@@ -3,7 +3,7 @@
 use mathlib.Core.Path.{refl}
 use native.Mathlib.Omega.{arith}
 use borrow.Author.Needs.{needs}
-use Rattle.words.specs.Powers.{powers-are}
+use Rattle.powers.specs.Powers.{powers-are}
 use Rattle.shelves.proofs.Shelf.{nexts-small, tables, size-read, descending, page-refused, page-none, page-listed}
 use Rattle.shelves.proofs.page_by.Statement.{statement}
 use Rattle.shelves.proofs.page_by.Tie as tie

@@ -21,7 +21,7 @@ use Rattle.laws.specs.Numbers.{four-pos, length-digits, digits-below, window-cu
 use Rattle.laws.specs.Minima.{length-values, least-more, vigemin-word}
 use Rattle.laws.specs.Rolls.{values, value-mer}
 use Rattle.laws.specs.Accepted.{VigeminAccepted}
-use Rattle.words.specs.Powers.{powerOutcome, power-four}
+use Rattle.powers.specs.Powers.{powerOutcome, power-four}
 use Rattle.vigemins.proofs.least_mer.Statement.{statement}
 use Rattle.vigemins.proofs.least_mer.Tie as tie
 

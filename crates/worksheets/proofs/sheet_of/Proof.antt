@@ -1,7 +1,7 @@
 -- `worksheets::sheet_of` meets its contract: each column is that of its side.
 -- Assumes nothing.
 use borrow.Author.Needs.{needs}
-use Rattle.words.specs.Powers.{powers-are}
+use Rattle.powers.specs.Powers.{powers-are}
 use Rattle.worksheets.proofs.Laws.{states-moves}
 use Rattle.worksheets.proofs.sheet_of.Statement.{statement}
 use Rattle.worksheets.proofs.sheet_of.Tie as tie

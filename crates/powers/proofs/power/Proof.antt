@@ -1,4 +1,4 @@
--- `words::power` meets its contract: up to 31 the table has the power.
+-- `powers::power` meets its contract: up to 31 the table has the power.
 -- Assumes nothing.
 use Prim.Native.Nat.{ℕ, _^_}
 use mathlib.Core.List.{List}
@@ -8,8 +8,8 @@ use borrow.Author.Needs.{needs}
 use borrow.Author.Tests.{le-leb, lt-leb}
 use lib.ListN.{getD}
 use Rattle.laws.specs.Filters.{tabulate-at}
-use Rattle.words.proofs.power.Statement.{statement}
-use Rattle.words.proofs.power.Tie as tie
+use Rattle.powers.proofs.power.Statement.{statement}
+use Rattle.powers.proofs.power.Tie as tie
 
 returns : tie.Need-returns
 returns c = rw (lt-leb (c .before .args .n) 31 (c .if1 .taken))

@@ -1,4 +1,4 @@
--- `words::too_large` meets its contract: no number of 64 bits is too large for 32 letters or more, and below that the table tells.
+-- `powers::too_large` meets its contract: no number of 64 bits is too large for 32 letters or more, and below that the table tells.
 -- Assumes nothing.
 use Prim.Native.Nat.{_^_, _≤_}
 use mathlib.Core.Path.{sym, _∙_}
@@ -7,9 +7,9 @@ use native.Mathlib.Omega.{arith}
 use borrow.Author.Needs.{needs}
 use borrow.Author.Tests.{lt-leb}
 use Rattle.laws.specs.Numbers.{four-pos}
-use Rattle.words.specs.Powers.{power-four}
-use Rattle.words.proofs.too_large.Statement.{statement}
-use Rattle.words.proofs.too_large.Tie as tie
+use Rattle.powers.specs.Powers.{power-four}
+use Rattle.powers.proofs.too_large.Statement.{statement}
+use Rattle.powers.proofs.too_large.Tie as tie
 
 returns : tie.Need-returns
 returns c =

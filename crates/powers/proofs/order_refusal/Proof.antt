@@ -1,11 +1,11 @@
--- `words::order_refusal` meets its contract: each return gives the number of the first ground whose test held.
+-- `powers::order_refusal` meets its contract: each return gives the number of the first ground whose test held.
 -- Assumes nothing.
 use mathlib.Core.Bool.{true}
 use mathlib.Core.Path.{_≡_}
 use borrow.Author.Needs.{needs}
 use Rattle.definitions.specs.Refusals.{badLength, badM}
-use Rattle.words.proofs.order_refusal.Statement.{statement}
-use Rattle.words.proofs.order_refusal.Tie as tie
+use Rattle.powers.proofs.order_refusal.Statement.{statement}
+use Rattle.powers.proofs.order_refusal.Tie as tie
 
 returns : tie.Need-returns
 returns c =

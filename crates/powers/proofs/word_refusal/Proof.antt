@@ -1,4 +1,4 @@
--- `words::word_refusal` meets its contract: the refusal of k, m and the key or, where that is 0, that of the word.
+-- `powers::word_refusal` meets its contract: the refusal of k, m and the key or, where that is 0, that of the word.
 -- Assumes nothing.
 use mathlib.Core.Bool.{cond}
 use mathlib.Core.List.{[], _∷_, _++_}
@@ -10,8 +10,8 @@ use lib.Dec.{eqb}
 use Rattle.definitions.specs.Refusals.{refusal, badKey, badWord}
 use Rattle.definitions.specs.Outcomes.{orderGrounds}
 use Rattle.laws.specs.Refusals.{refusal-append}
-use Rattle.words.proofs.word_refusal.Statement.{statement}
-use Rattle.words.proofs.word_refusal.Tie as tie
+use Rattle.powers.proofs.word_refusal.Statement.{statement}
+use Rattle.powers.proofs.word_refusal.Tie as tie
 
 -- the refusal by those of the two lists
 given : (c : tie.After-order-refusal)
