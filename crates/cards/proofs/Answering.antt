@@ -14,13 +14,13 @@ use Rattle.definitions.specs.Vigemins.{Form, keyed}
 use Rattle.definitions.specs.Shelves.{size, page}
 use Rattle.definitions.specs.Refusals.{Ground, refusal}
 use Rattle.definitions.specs.Outcomes.{Counted, Paged, shelfGrounds, sizeOutcome, pageOutcome}
-use Rattle.definitions.specs.Cards.{Line as LineRead, readAnswer, readOutcome, ascii, decimal, Asked, asks, parts, wellFormed, Printed, cardGrounds, cardText, cardOutcome, settings, entries}
+use Rattle.definitions.specs.Cards.{Line as LineRead, readAnswer, readOutcome, ascii, decimal, Asked, asks, parts, wellFormed, Printed, cardGrounds, cardText, textFor, cardOutcome, settings, entries}
 use Rattle.laws.specs.Accepted.{ShelfAccepted, word-accepted, size-refusal, size-count}
 use Rattle.laws.specs.Listings.{page-outcome}
 use Rattle.laws.specs.Cards.{page-words, page-small}
 use Rattle.lines.specs.Answers.{Answer as Line, lined}
 use Rattle.cards.specs.Texts.{Laid, SettingsFit, KmersFit, keyPart, wordPart}
-use Rattle.cards.specs.Answers.{Told, askedOf, Wrote, textFor, Answers}
+use Rattle.cards.specs.Answers.{Told, askedOf, Wrote, Answers}
 use Rattle.cards.proofs.Laying.{laid-as, laid-left, settings-parts, key-part-most, word-part-most}
 
 -- the line of a refusal

@@ -4,8 +4,6 @@ use Prim.Native.Nat.{ℕ}
 use mathlib.Core.List.{List}
 use mathlib.Core.Path.{_≡_}
 use lib.ListN.{length}
-use Rattle.definitions.specs.Words.{word as wordOf}
-use Rattle.definitions.specs.Vigemins.{keyed}
 use Rattle.definitions.specs.Refusals.{refusal}
 use Rattle.definitions.specs.Cards as cards
 use Rattle.cards.specs.Texts.{Laid}
@@ -20,20 +18,15 @@ printed r = record { refusal = r .refusal; length = r .length; text = r .text }
 abbrev pub askedOf : ℕ → ℕ → ℕ → ℕ → cards.Asked
 askedOf k m key w = record { k = k; m = m; key = key; word = w }
 
--- a refusal was answered and a text written
-pub record Wrote (n : ℕ) (t : List ℕ) (r : declared-told.Told) (old room : List ℕ) : Type 0 where
-  pub refusal : r .refusal ≡ n
-  pub laid : Laid t (r .length) old room
-
 -- what writing an answer tells
 abbrev pub Told : Type 0
 Told = declared-told.Told
 
--- the text that is printed for an input
-abbrev pub textFor : List ℕ → List ℕ
-textFor s = let a = cards.asks (cards.parts s) in cards.cardText (refusal (cards.cardGrounds s)) (keyed (wordOf (a .m) (a .key))) a
+-- a refusal was told and a text written
+pub record Wrote (n : ℕ) (t : List ℕ) (r : Told) (old room : List ℕ) : Type 0 where
+  pub refusal : r .refusal ≡ n
+  pub laid : Laid t (r .length) old room
 
 -- the answer to an input was written
-pub record Answers (s : List ℕ) (r : Told) (old room : List ℕ) : Type 0 where
-  pub refusal : r .refusal ≡ refusal (cards.cardGrounds s)
-  pub laid : Laid (textFor s) (r .length) old room
+abbrev pub Answers : List ℕ → Told → List ℕ → List ℕ → Type 0
+Answers s = Wrote (refusal (cards.cardGrounds s)) (cards.textFor s)

@@ -169,7 +169,7 @@ pub struct Printed {
 }
 
 // The card of a shelf, from the input that names it: the settings and the size, then place and k-mer for the first 16, or for all if there are
-// fewer; or the line of a refusal. Refusals 10, then 1 to 4.
+// fewer; or the line of a refusal. Refusals 10, then 1 to 4. That the text is a part of the array is told besides, for whoever cuts it out.
 pub fn card(input: &[u8]) -> Printed
     ensures { λ r. ⌜ printed r ≡ cardOutcome (now (input .entry)) ⌝ }
     ensures { λ r. ⌜ r .length ≤ length (r .text) ⌝ }

@@ -80,7 +80,7 @@ fn worksheets(t: Tally) -> Tally {
 }
 
 // The plain counter: 1 to 4, then 9. With m = 1 and a word under its own key an antemer has any of the other letters at each place; with m = 21 and
-// A alone, any but A at its last place.
+// A alone, any but A at its last place. For k = 9, key CA and word AC they were counted over all words of 7 letters.
 fn counters(t: Tally) -> Tally {
     let t = antemers(t, at(6, 1, 0, 0), 0, 243);
     let t = antemers(t, at(6, 1, 2, 2), 0, 243);

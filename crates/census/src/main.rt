@@ -1,6 +1,6 @@
 // The census: for every k up to 8 and every m up to k, goes through every k-mer, finds its vigemin by a plain loop, and tallies the words. With that
 // it compares the operations: each vigemin, the size of every word, and some shelves by pages. It prints a line for each k; where something
-// differs it says what, and stops. Assumes nothing.
+// differs it says what, and stops.
 ghost use Prim.Native.Nat.{_≤_, _<_};
 ghost use lib.ListN.{length};
 use libc::STDOUT_FILENO;
@@ -11,13 +11,6 @@ const MOST_LETTERS: u64 = 8;
 
 // An entry for each k-mer, or for each word, of at most 8 letters.
 type Table = [u64; 65536];
-
-// The greatest m for a k: m up to k.
-fn greatest(k: u64) -> u64
-    ensures { λ r. ⌜ r ≤ k ⌝ }
-{
-    k
-}
 
 // 4^n, for n from 1 to 8.
 fn power(n: u64) -> u64
@@ -474,9 +467,8 @@ fn compare(
         shelves: 0,
         pages: 0,
     };
-    let most = greatest(k);
     let mut m = 1;
-    while m <= most {
+    while m <= k {
         done = compare_keys(k, m, done, found, tally, shelf, room);
         if !done.agree {
             return false;

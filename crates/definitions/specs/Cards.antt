@@ -21,17 +21,19 @@ ascii (c ▷ s) = code c ∷ ascii s
 
 -- ---- the line that is read
 
--- a space, and a line feed
+-- the byte of a space
 abbrev pub space : ℕ
 space = 32
 
-abbrev pub feed : ℕ
-feed = 10
+-- the byte of a line feed
+abbrev pub lineFeed : ℕ
+lineFeed = 10
 
--- the bytes of a text before the first byte of a kind, and those behind it
+-- the bytes of a text before the first byte b; all where it has none
 abbrev pub before : ℕ → List ℕ → List ℕ
 before b s = take (firstPlace (eqb b) s) s
 
+-- and those behind it; none where it has none
 abbrev pub behind : ℕ → List ℕ → List ℕ
 behind b s = drop (suc (firstPlace (eqb b) s)) s
 
@@ -45,11 +47,11 @@ pub record Parts : Type 0 where
 abbrev pub parts : List ℕ → Parts
 parts s =
     let rest = behind space s in
-    record { k = before space s; key = before space rest; word = before feed (behind space rest) }
+    record { k = before space s; key = before space rest; word = before lineFeed (behind space rest) }
 
 -- the line of three texts: single spaces between, one line feed, then the end
 abbrev pub lineOf : Parts → List ℕ
-lineOf p = p .k ++ (space ∷ p .key) ++ (space ∷ p .word) ++ (feed ∷ [])
+lineOf p = p .k ++ (space ∷ p .key) ++ (space ∷ p .word) ++ (lineFeed ∷ [])
 
 -- whether a byte is one of the digits 0 to 9
 abbrev pub isDigit : ℕ → Bool
@@ -92,6 +94,10 @@ pub record Asked : Type 0 where
 abbrev pub asks : Parts → Asked
 asks p = record { k = numberOf (p .k); m = length (p .key); key = val (spelled (p .key)); word = val (spelled (p .word)) }
 
+-- what a malformed line asks for
+abbrev pub nothing : Asked
+nothing = record { k = 0; m = 0; key = 0; word = 0 }
+
 -- ---- read(input)
 
 -- what reading a line answers: the refusal, and what the line asks for
@@ -102,7 +108,7 @@ pub record Line : Type 0 where
 -- its answer under a number of refusal
 unfoldable pub readAnswer : ℕ → Asked → Line
 readAnswer zero a = record { refusal = 0; asked = a }
-readAnswer (suc r) a = record { refusal = suc r; asked = record { k = 0; m = 0; key = 0; word = 0 } }
+readAnswer (suc r) a = record { refusal = suc r; asked = nothing }
 
 -- the outcome of read(input)
 unfoldable pub readOutcome : List ℕ → Line
@@ -140,7 +146,8 @@ cardText (suc r) f a = ascii "refused " ++ decimal (suc r) ++ ascii "\n"
 
 -- ---- card(input)
 
--- what the card answers: the refusal, the length of the text, and 664 bytes with the text at their front and zeros behind it
+-- what the card answers: the refusal, the length of the text, and 664 bytes with the text at their front and zeros behind it. 104 bytes take the
+-- settings and 35 each of 16 k-mers: no text is longer
 pub record Printed : Type 0 where
   pub refusal : ℕ
   pub length : ℕ
@@ -154,10 +161,11 @@ cardGrounds s = let a = asks (parts s) in badLine s ∷ shelfGrounds (a .k) (a .
 abbrev pub printedText : ℕ → List ℕ → Printed
 printedText r t = record { refusal = r; length = length t; text = over t (replicate 664 0) }
 
+-- the text that is printed for an input
+abbrev pub textFor : List ℕ → List ℕ
+textFor s = let a = asks (parts s) in cardText (refusal (cardGrounds s)) (keyed (word (a .m) (a .key))) a
+
 -- the outcome of card(input)
 unfoldable pub cardOutcome : List ℕ → Printed
 unfolding cardText
-cardOutcome s =
-    let a = asks (parts s) in
-    let r = refusal (cardGrounds s) in
-    printedText r (cardText r (keyed (word (a .m) (a .key))) a)
+cardOutcome s = printedText (refusal (cardGrounds s)) (textFor s)

@@ -196,13 +196,13 @@ pub card-cases : (cardOutcome (ascii "4 TAA AAA\n") ≡ printedText 0 (ascii "k=
 unfolding cardOutcome cardText decimal
 card-cases = (refl, refl, refl)
 
--- k = 0 and 32, and m above k, are well formed and refused by the operations; a lower case letter is told first
+-- k = 0 and 32, and m above k, are well formed and refused by the operations; of k = 0 with a lower case letter 10 is told
 pub card-refusals : (cardOutcome (ascii "0 A A\n") ≡ printedText 1 (ascii "refused 1\n")) × (cardOutcome (ascii "32 A A\n") ≡ printedText 1 (ascii "refused 1\n"))
     × (cardOutcome (ascii "3 AAAA AAAA\n") ≡ printedText 2 (ascii "refused 2\n")) × (cardOutcome (ascii "0 A a\n") ≡ printedText 10 (ascii "refused 10\n"))
 unfolding cardOutcome cardText decimal
 card-refusals = (refl, refl, refl, refl)
 
--- lines of which each is malformed in one way
+-- malformed lines
 abbrev malformed : List (List ℕ)
 malformed =
     ascii "" ∷ ascii "\n" ∷ ascii "4 TAA AAA" ∷ ascii "4 TAA AAA\n\n" ∷ ascii "4 TAA AAA\n4 TAA AAA\n" ∷ ascii " 4 TAA AAA\n" ∷ ascii "4  TAA AAA\n"

@@ -231,7 +231,7 @@ unfolding scanAnswer
 scanAnswer-place zero entries f k m s room = refl
 scanAnswer-place (suc r) entries f k m s room = refl
 
--- ---- the numbers of a refused size and of a refused scan are small
+-- ---- the size
 
 -- the refusal of a size is that of its shelf
 pub size-refusal : (k m key w : ℕ) → sizeOutcome k m key w .refusal ≡ refusal (shelfGrounds k m key w)
@@ -242,6 +242,8 @@ size-refusal k m key w = sizeAnswer-refusal (refusal (shelfGrounds k m key w)) (
 pub size-count : (k m key w : ℕ) → refusal (shelfGrounds k m key w) ≡ 0 → sizeOutcome k m key w .count ≡ size (keyed (word m key)) k (word m w)
 unfolding sizeOutcome sizeAnswer
 size-count k m key w z = ap (λ (r : ℕ). sizeAnswer r (keyed (word m key)) k (word m w) .count) z
+
+-- ---- the numbers of a refused size and of a refused scan are small
 
 -- the size refuses by at most 4
 pub size-refusal-most : (k m key w : ℕ) → sizeOutcome k m key w .refusal ≤ 4

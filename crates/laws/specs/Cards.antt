@@ -1,7 +1,7 @@
 -- The shelf printer: an input is well formed exactly if it is the line of three proper parts, and then it has at most 67 bytes; the k-mers that are
 -- printed are the words of the numbers that a page writes.
 -- Assumes nothing.
-use Prim.Native.Nat.{ℕ, suc, _+_, _-_, _^_, _≤_, _<_, min}
+use Prim.Native.Nat.{ℕ, suc, _+_, _-_, _^_, _≤_, _<_}
 use mathlib.Core.Bool.{Bool, true, false, not, _&&_, true≢false}
 use mathlib.Core.List.{List, [], _∷_, _++_, map, append-assoc, List·Memᴰ, List·Memᴰ·head, List·Memᴰ·tail}
 use mathlib.Core.Path.{_≡_, refl, sym, ap, ap₂, subst, _∙_}
@@ -9,19 +9,19 @@ use native.Mathlib.Numerals.{add-one}
 use native.Mathlib.Omega.{arith}
 use borrow.Author.Tests.{lt-leb, eq-eqb, ne-eqb, eqb-true, not-true}
 use lib.Dec.{eqb}
-use lib.ListN.{length, getD, take, drop, length-append, length-take, length-drop, length-map, drop-of-length-le}
+use lib.ListN.{length, getD, take, drop, length-append, length-drop, length-map, drop-of-length-le}
 use lib.Seq.{length-take-le, take-nil, take-all, split-at, take-append-seam, drop-append-add, getD-take, getD-drop}
 use Rattle.definitions.specs.Lists.{all, firstPlace}
-use Rattle.definitions.specs.Words.{Word, Mer, same, val, word, letterOf, isLetter, spelled}
+use Rattle.definitions.specs.Words.{Word, Mer, same, val, word, isLetter, spelled}
 use Rattle.definitions.specs.Vigemins.{Form}
 use Rattle.definitions.specs.Shelves.{shelf, page}
-use Rattle.definitions.specs.Cards.{space, feed, before, behind, Parts, parts, lineOf, isDigit, isNumber, isWord, proper, wellFormed, asks, cardGrounds}
+use Rattle.definitions.specs.Cards.{space, lineFeed, before, behind, Parts, parts, lineOf, isDigit, isNumber, isWord, proper, wellFormed, asks, cardGrounds}
 use Rattle.definitions.specs.Refusals.{refusal, badLength, badM}
 use Rattle.definitions.specs.Outcomes.{packGrounds}
 use Rattle.laws.specs.Tests.{and-l, and-r, and-i, contrary, test-ext, same-eq, eq-same}
 use Rattle.laws.specs.Filters.{at-mem, mem-at, at-map}
-use Rattle.laws.specs.Numbers.{number-lt, digits-number, spelled-letters}
-use Rattle.laws.specs.Catalogue.{shelf-holds}
+use Rattle.laws.specs.Numbers.{number-lt, digits-number, spelled-small}
+use Rattle.laws.specs.Catalogue.{shelf-holds, page-length}
 use Rattle.laws.specs.Places.{firstPlace-holds, firstPlace-le}
 use Rattle.laws.specs.Accepted.{PackAccepted, pack-accepted}
 
@@ -44,19 +44,19 @@ behind-none b s {a} h e =
     ap (take (length s - a)) (drop-of-length-le s h) ∙ take-nil (length s - a) ∙ sym (drop-of-length-le s {i = suc (firstPlace (eqb b) s)} (omega (arith, e)))
 
 -- where there is such a byte, the two parts and the byte between them are the text
-pub cut-whole : (b : ℕ) (s : List ℕ) → length (before b s) < length s → before b s ++ (b ∷ behind b s) ≡ s
+cut-whole : (b : ℕ) (s : List ℕ) → length (before b s) < length s → before b s ++ (b ∷ behind b s) ≡ s
 cut-whole b s h =
     let at : firstPlace (eqb b) s < length s = rw (length-before b s) at h in
     let it : b ≡ getD s (firstPlace (eqb b) s) 0 = eqb-true b (getD s (firstPlace (eqb b) s) 0) (firstPlace-holds (eqb b) s 0 at) in
     ap (λ (a : ℕ). before b s ++ (a ∷ behind b s)) it ∙ sym (split-at s (firstPlace (eqb b) s) 0 at)
 
 -- how long the line of three texts is
-pub length-line : (p : Parts) → length (lineOf p) ≡ length (p .k) + length (p .key) + length (p .word) + 3
+length-line : (p : Parts) → length (lineOf p) ≡ length (p .k) + length (p .key) + length (p .word) + 3
 length-line p = rw (length-append, length-append, length-append) (omega arith)
 
 -- the line of three texts, from its first part on
-line-nested : (p : Parts) → lineOf p ≡ p .k ++ (space ∷ (p .key ++ (space ∷ (p .word ++ (feed ∷ [])))))
-line-nested p = append-assoc (p .k ++ (space ∷ p .key)) (space ∷ p .word) (feed ∷ []) ∙ append-assoc (p .k) (space ∷ p .key) (space ∷ (p .word ++ (feed ∷ [])))
+line-nested : (p : Parts) → lineOf p ≡ p .k ++ (space ∷ (p .key ++ (space ∷ (p .word ++ (lineFeed ∷ [])))))
+line-nested p = append-assoc (p .k ++ (space ∷ p .key)) (space ∷ p .word) (lineFeed ∷ []) ∙ append-assoc (p .k) (space ∷ p .key) (space ∷ (p .word ++ (lineFeed ∷ [])))
 
 -- where the lengths of the parts of an input and three bytes make up its length, it is the line of its parts
 whole : (s : List ℕ) → let p = parts s in length (p .k) + length (p .key) + length (p .word) + 3 ≡ length s → s ≡ lineOf p
@@ -67,9 +67,9 @@ whole s e =
     let l = length-behind space rest in
     let first = cut-whole space s (omega arith) in
     let second = cut-whole space rest (omega arith) in
-    let third = cut-whole feed last (omega arith) in
-    let end : behind feed last ≡ [] = drop-of-length-le last {i = suc (firstPlace (eqb feed) last)} (omega (arith, length-before feed last)) in
-    sym (line-nested (parts s) ∙ ap (λ (t : List ℕ). before space s ++ (space ∷ (before space rest ++ (space ∷ (before feed last ++ (feed ∷ t)))))) (sym end)
+    let third = cut-whole lineFeed last (omega arith) in
+    let end : behind lineFeed last ≡ [] = drop-of-length-le last {i = suc (firstPlace (eqb lineFeed) last)} (omega (arith, length-before lineFeed last)) in
+    sym (line-nested (parts s) ∙ ap (λ (t : List ℕ). before space s ++ (space ∷ (before space rest ++ (space ∷ (before lineFeed last ++ (lineFeed ∷ t)))))) (sym end)
     ∙ ap (λ (t : List ℕ). before space s ++ (space ∷ (before space rest ++ (space ∷ t)))) third ∙ ap (λ (t : List ℕ). before space s ++ (space ∷ t)) second ∙ first)
 
 -- an input is the line of its parts exactly if these and three bytes make up its length
@@ -112,21 +112,21 @@ other-byte : (p : ℕ → Bool) (b c : ℕ) → p b ≡ false → p c ≡ true �
 other-byte p b c n e = ap not (ne-eqb b c (λ q. contrary (p c) e (ap p (sym q) ∙ n)))
 
 -- one or two digits, none of which is a space
-number-digits : (t : List ℕ) → isNumber t ≡ true → (length t ≤ 2) × (all (λ c. not (eqb space c)) t ≡ true)
-number-digits [] e = absurd (true≢false (sym e))
-number-digits (a ∷ []) e = (omega arith, and-i (not (eqb space a)) true (other-byte isDigit space a refl e) refl)
-number-digits (a ∷ b ∷ []) e =
+number-short : (t : List ℕ) → isNumber t ≡ true → (length t ≤ 2) × (all (λ c. not (eqb space c)) t ≡ true)
+number-short [] e = absurd (true≢false (sym e))
+number-short (a ∷ []) e = (omega arith, and-i (not (eqb space a)) true (other-byte isDigit space a refl e) refl)
+number-short (a ∷ b ∷ []) e =
     let first = and-l (isDigit a) (not (eqb a 48)) (and-l (isDigit a && not (eqb a 48)) (isDigit b) e) in
     let second = and-r (isDigit a && not (eqb a 48)) (isDigit b) e in
     (omega arith, and-i (not (eqb space a)) (not (eqb space b) && true) (other-byte isDigit space a refl first) (and-i (not (eqb space b)) true (other-byte isDigit space b refl second) refl))
-number-digits (a ∷ b ∷ c ∷ t) e = absurd (true≢false (sym e))
+number-short (a ∷ b ∷ c ∷ t) e = absurd (true≢false (sym e))
 
 -- a well-formed input has at most 67 bytes, so what has more is refused however it goes on
 pub formed-short : (s : List ℕ) → wellFormed s ≡ true → length s ≤ 67
 formed-short s e =
     let f = formed-line s e in
     let p = proper-parts (parts s) (f .1) in
-    omega (arith, ap length (f .0), length-line (parts s), number-digits (parts s .k) (p .number) .0, p .key .few, p .word .few)
+    omega (arith, ap length (f .0), length-line (parts s), number-short (parts s .k) (p .number) .0, p .key .few, p .word .few)
 
 -- a text of letters has no byte that is none
 letters-other : (b : ℕ) → isLetter b ≡ false → (t : List ℕ) → all isLetter t ≡ true → all (λ c. not (eqb b c)) t ≡ true
@@ -153,10 +153,10 @@ cut-behind b u v e = (
 pub line-formed : (p : Parts) → proper p ≡ true → (parts (lineOf p) ≡ p) × (wellFormed (lineOf p) ≡ true)
 line-formed p e =
     let q = proper-parts p e in
-    let rest = p .key ++ (space ∷ (p .word ++ (feed ∷ []))) in
-    let first = cut-behind space (p .k) rest (number-digits (p .k) (q .number) .1) in
-    let second = cut-behind space (p .key) (p .word ++ (feed ∷ [])) (letters-other space refl (p .key) (q .key .allLetters)) in
-    let third = cut-behind feed (p .word) [] (letters-other feed refl (p .word) (q .word .allLetters)) in
+    let rest = p .key ++ (space ∷ (p .word ++ (lineFeed ∷ []))) in
+    let first = cut-behind space (p .k) rest (number-short (p .k) (q .number) .1) in
+    let second = cut-behind space (p .key) (p .word ++ (lineFeed ∷ [])) (letters-other space refl (p .key) (q .key .allLetters)) in
+    let third = cut-behind lineFeed (p .word) [] (letters-other lineFeed refl (p .word) (q .word .allLetters)) in
     let same-parts : parts (lineOf p) ≡ p = rw (line-nested p, first .0, first .1, second .0, second .1, third .0) in
     (same-parts, and-i (same (lineOf p) (lineOf (parts (lineOf p)))) (proper (parts (lineOf p))) (eq-same (ap lineOf (sym same-parts))) (ap proper same-parts ∙ e))
 
@@ -168,9 +168,6 @@ formed-refusal s e =
     let key = spelled-small (p .key) (q .key .allLetters) in
     let w = subst (λ (n : ℕ). val (spelled (p .word)) < 4 ^ n) (sym (q .alike)) (spelled-small (p .word) (q .word .allLetters)) in
     rw (e, lt-leb (4 ^ length (p .key)) (val (spelled (p .key))) key, lt-leb (4 ^ length (p .key)) (val (spelled (p .word))) w)
-  where
-    spelled-small : (t : List ℕ) → all isLetter t ≡ true → val (spelled t) < 4 ^ length t
-    spelled-small t l = subst (λ (n : ℕ). val (spelled t) < 4 ^ n) (length-map t letterOf) (number-lt 4 (spelled t) (spelled-letters t l))
 
 -- ---- the k-mers that are printed
 
@@ -187,7 +184,7 @@ module _ (f : Form) (k : ℕ) (w : Word) (start n : ℕ) where
   page-mer x h =
       let p = mem-at (page f k w start n) [] h in
       let i = p .0 in
-      let long : min n (length (shelf f k w) - start) ≡ length (page f k w start n) = sym (length-take n (drop start (shelf f k w)) ∙ ap (min n) (length-drop start (shelf f k w))) in
+      let long = page-length f k w start n in
       let there = at-mem (shelf f k w) [] (start + i) (omega (arith, p .1)) in
       shelf-holds f k w x .0 (subst (λ (y : Word). List·Memᴰ y (shelf f k w)) (sym (p .2 ∙ getD-take n (drop start (shelf f k w)) i [] (omega (arith, p .1)) ∙ getD-drop start (shelf f k w) i [])) there) .0
 

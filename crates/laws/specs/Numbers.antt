@@ -316,6 +316,10 @@ spelled-letters [] e = tt
 spelled-letters (c ∷ t) e =
     (ltb-true (letterOf c) 4 (and-l (isLetter c) (all isLetter t) e), spelled-letters t (and-r (isLetter c) (all isLetter t) e))
 
+-- the number of what a text of letters spells has as many letters as the text
+pub spelled-small : (t : List ℕ) → all isLetter t ≡ true → val (spelled t) < 4 ^ length t
+spelled-small t e = rw (← length-map t letterOf) (number-lt 4 (spelled t) (spelled-letters t e))
+
 -- a word's text has letters only
 pub text-letters : (x : Word) → Letters x → all isLetter (text x) ≡ true
 text-letters [] h = refl

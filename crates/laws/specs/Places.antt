@@ -34,7 +34,7 @@ module _ {A : Type 0} (p : A → Bool) where
       go true h = omega arith
       go false h = omega arith
 
-  -- the first place from place i on, where the test at place i has been made
+  -- the first place from i on: none further where the test holds at i, else one more than from i + 1 on
   pub firstPlace-look : (l : List A) (d : A) (i : ℕ) {t : Bool} → i < length l → p (getD l i d) ≡ t
       → firstPlace p (drop i l) ≡ cond t zero (suc (firstPlace p (drop (suc i) l)))
   firstPlace-look l d i h e = rw (drop-cons l i d h, e)

@@ -17,7 +17,7 @@ use Rattle.definitions.specs.Shelves.{antemers, row}
 use Rattle.definitions.specs.Refusals.{refusal}
 use Rattle.definitions.specs.Outcomes.{Packed, packGrounds, packAnswer, packOutcome, unpackGrounds, unpackAnswer, unpackOutcome, vigeminAnswer, vigeminOutcome, worksheetAnswer, worksheetOutcome, counterGrounds, counterAnswer, counterOutcome, scanGrounds, scanAnswer, scanOutcome}
 use Rattle.laws.specs.Filters.{tabulate-at}
-use Rattle.laws.specs.Numbers.{four-pos, number-lt, digits-below, number-digits-lt, digits-number, spelled-text, text-spelled, spelled-letters, text-letters, length-text}
+use Rattle.laws.specs.Numbers.{four-pos, digits-below, number-digits-lt, digits-number, spelled-text, text-spelled, spelled-letters, text-letters, length-text, spelled-small}
 use Rattle.laws.specs.Minima.{length-stretch, all-stretch, map-stretch, length-windows}
 use Rattle.laws.specs.Scans.{length-scan, scan-at, scan-inside, scan-word}
 use Rattle.laws.specs.Accepted.{PackAccepted, pack-accepted, accepted-pack, UnpackAccepted, unpack-accepted, accepted-unpack, VigeminAccepted, accepted-word, counter-accepted, accepted-counter, counterAnswer-refusal, ScanAccepted, scan-accepted, accepted-scan, packAnswer-refusal, unpackAnswer-refusal, scanAnswer-refusal}
@@ -68,7 +68,7 @@ packed-word {t} a e = rw (pack-outcome a) (digits-number 4 (spelled t) (spelled-
 
 -- the number of a packed text of n letters is that of a word of n letters
 pub packed-small : {t : List ℕ} {n : ℕ} → PackAccepted t → length t ≡ n → packOutcome t .word < 4 ^ n
-packed-small {t} a e = rw (pack-outcome a, ← e, ← length-map t letterOf) (number-lt 4 (spelled t) (spelled-letters t (a .allLetters)))
+packed-small {t} a e = rw (pack-outcome a, ← e) (spelled-small t (a .allLetters))
 
 -- a text that is packed and unpacked again is the same text
 pub unpack-pack : (t room : List ℕ) → packOutcome t .refusal ≡ 0 → length t ≤ length room

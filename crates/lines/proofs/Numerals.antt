@@ -11,14 +11,7 @@ use lib.Dec.{leb, ltb, eqb}
 use lib.ListN.{length, getD}
 use Rattle.definitions.specs.Cards.{isDigit, isNumber, numberOf}
 use Rattle.laws.specs.Tests.{and-l, and-r}
-
--- the digit that a byte spells; 10 where it spells none
-abbrev pub digitOf : ℕ → ℕ
-digitOf b = cond (isDigit b) (b - 48) 10
-
--- the number that a text spells; 100 where it spells none
-abbrev pub spelledIn : List ℕ → ℕ
-spelledIn s = cond (isNumber s) (numberOf s) 100
+use Rattle.lines.specs.Answers.{digitOf, spelledIn}
 
 -- a byte spells a digit, or none
 digit-cases : (b : ℕ) {d : ℕ} → d ≡ digitOf b → ((isDigit b ≡ true) × (d + 48 ≡ b) × (d < 10)) ⊎ ((isDigit b ≡ false) × (d ≡ 10))

@@ -11,14 +11,14 @@ use lib.ListN.{length}
 use Rattle.definitions.specs.Words.{val, spelled}
 use Rattle.definitions.specs.Refusals.{refusal}
 use Rattle.definitions.specs.Outcomes.{Packed, packGrounds, packOutcome}
-use Rattle.definitions.specs.Cards.{space, feed, before, behind, Parts, parts, isNumber, numberOf, isWord, proper, wellFormed, asks, Line, readAnswer, readOutcome}
+use Rattle.definitions.specs.Cards.{space, lineFeed, before, behind, Parts, parts, isNumber, numberOf, isWord, proper, wellFormed, asks, Line, readAnswer, readOutcome}
 use Rattle.laws.specs.Tests.{not-and}
 use Rattle.laws.specs.RoundTrips.{pack-outcome}
 use Rattle.laws.specs.Places.{firstPlace-le}
 use Rattle.laws.specs.Accepted.{packAnswer-refusal}
 use Rattle.laws.specs.Cards.{length-before, length-behind, line-test, proper-parts}
-use Rattle.lines.specs.Answers.{malformedLine, partsOutcome}
-use Rattle.lines.proofs.Numerals.{spelledIn, spelled-test}
+use Rattle.lines.specs.Answers.{spelledIn, malformedLine, partsOutcome}
+use Rattle.lines.proofs.Numerals.{spelled-test}
 
 -- ---- the line of an input
 
@@ -28,7 +28,7 @@ pub record Cuts (s k rest key last word : List ℕ) : Type 0 where
   pub behindFirst : rest ≡ behind space s
   pub second : key ≡ before space rest
   pub behindSecond : last ≡ behind space rest
-  pub third : word ≡ before feed last
+  pub third : word ≡ before lineFeed last
 
 -- a test turned round
 cond-not : (t : Bool) → _≡_ {A = ℕ} (cond (not t) 10 0) (cond t 0 10)
@@ -50,7 +50,7 @@ module _ {s k rest key last word : List ℕ} (c : Cuts s k rest key last word) w
       let r = c .behindFirst in
       let l : last ≡ behind space (behind space s) = c .behindSecond ∙ ap (behind space) r in
       let m : key ≡ before space (behind space s) = c .second ∙ ap (before space) r in
-      let w : word ≡ before feed (behind space (behind space s)) = c .third ∙ ap (before feed) l in
+      let w : word ≡ before lineFeed (behind space (behind space s)) = c .third ∙ ap (before lineFeed) l in
       ap (λ (u : List ℕ). partsOf u key word) (c .first) ∙ ap₂ (λ (u v : List ℕ). partsOf (before space s) u v) m w
 
   -- they are no longer than the input
@@ -65,7 +65,7 @@ module _ {s k rest key last word : List ℕ} (c : Cuts s k rest key last word) w
         ap length (c .third),
         before-le space s,
         before-le space rest,
-        before-le feed last,
+        before-le lineFeed last,
         length-behind space s,
         length-behind space rest,
       )

@@ -1,6 +1,6 @@
 -- The answer of reading a line as the outcome that `definitions` speaks of.
 -- Assumes nothing.
-use Prim.Native.Nat.{ℕ}
+use Prim.Native.Nat.{ℕ, _-_}
 use mathlib.Core.Bool.{cond}
 use mathlib.Core.List.{List}
 use Rattle.definitions.specs.Cards as cards
@@ -16,7 +16,15 @@ lined r = record { refusal = r .refusal; asked = record { k = r .k; m = r .m; ke
 
 -- the answer of a malformed line
 abbrev pub malformedLine : cards.Line
-malformedLine = record { refusal = 10; asked = record { k = 0; m = 0; key = 0; word = 0 } }
+malformedLine = record { refusal = 10; asked = cards.nothing }
+
+-- the digit that a byte spells; 10 where it spells none
+abbrev pub digitOf : ℕ → ℕ
+digitOf b = cond (cards.isDigit b) (b - 48) 10
+
+-- the number that a text spells; 100 where it spells none
+abbrev pub spelledIn : List ℕ → ℕ
+spelledIn s = cond (cards.isNumber s) (cards.numberOf s) 100
 
 -- the outcome of three texts: the line is malformed where they are not proper
 abbrev pub partsOutcome : List ℕ → List ℕ → List ℕ → cards.Line

@@ -1,13 +1,11 @@
 // The line that the shelf printer reads: k, a key and a word. Assumes nothing.
 ghost use mathlib.Core.Path.{_≡_};
-ghost use mathlib.Core.Bool.{cond};
-ghost use Prim.Native.Nat.{_-_};
 ghost use lib.Dec.{eqb};
 ghost use Rattle.definitions.specs.Lists.{firstPlace};
-ghost use Rattle.definitions.specs.Cards.{before as beforeFirst, behind as behindFirst, isDigit, isNumber, numberOf, readOutcome};
-ghost use Rattle.lines.specs.Answers.{lined, malformedLine, partsOutcome};
+ghost use Rattle.definitions.specs.Cards.{before as beforeFirst, behind as behindFirst, readOutcome};
+ghost use Rattle.lines.specs.Answers.{lined, digitOf, spelledIn, malformedLine, partsOutcome};
 
-// The place of the first byte of a kind; the length where there is none.
+// The place of the first such byte; the length where there is none.
 fn find(byte: u8, text: &[u8]) -> usize
     ensures { λ r. ⌜ r ≡ firstPlace (eqb byte) (now (text .entry)) ⌝ }
 {
@@ -21,7 +19,7 @@ fn find(byte: u8, text: &[u8]) -> usize
     i
 }
 
-// The part of a text before the first byte of a kind; all where there is none.
+// The part of a text before the first such byte; all where there is none.
 fn before(byte: u8, text: &[u8]) -> &[u8]
     ensures { λ r. ⌜ now r ≡ beforeFirst byte (now (text .entry)) ⌝ }
 {
@@ -29,7 +27,7 @@ fn before(byte: u8, text: &[u8]) -> &[u8]
     &text[..at]
 }
 
-// The part of a text behind the first byte of a kind; none where there is none.
+// The part of a text behind the first such byte; nothing where there is none.
 fn behind(byte: u8, text: &[u8]) -> &[u8]
     ensures { λ r. ⌜ now r ≡ behindFirst byte (now (text .entry)) ⌝ }
 {
@@ -42,7 +40,7 @@ fn behind(byte: u8, text: &[u8]) -> &[u8]
 
 // The digit that a byte spells; 10 where it spells none.
 fn digit(byte: u8) -> u64
-    ensures { λ r. ⌜ r ≡ cond (isDigit byte) (byte - 48) 10 ⌝ }
+    ensures { λ r. ⌜ r ≡ digitOf byte ⌝ }
 {
     if (b'0' <= byte) & (byte <= b'9') {
         return byte as u64 - 48;
@@ -52,7 +50,7 @@ fn digit(byte: u8) -> u64
 
 // The number that one or two digits with no leading zero spell; 100 where the text is no such.
 fn number(text: &[u8]) -> u64
-    ensures { λ r. ⌜ r ≡ cond (isNumber (now (text .entry))) (numberOf (now (text .entry))) 100 ⌝ }
+    ensures { λ r. ⌜ r ≡ spelledIn (now (text .entry)) ⌝ }
 {
     let n = text.len();
     if n == 1 {
@@ -114,7 +112,8 @@ fn read_parts(k: &[u8], key: &[u8], word: &[u8]) -> Line
     }
 }
 
-// What the line of an input asks for: three parts that make up all of it, with two spaces between and a line feed. Refusal 10.
+// What the line of an input asks for: three parts that make up all of it, with one space after k, one after the key, and a line feed at the end.
+// Refusal 10.
 pub fn read(input: &[u8]) -> Line
     ensures { λ r. ⌜ lined r ≡ readOutcome (now (input .entry)) ⌝ }
 {

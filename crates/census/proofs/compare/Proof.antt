@@ -6,13 +6,10 @@ use Rattle.census.proofs.compare.Statement.{statement}
 use Rattle.census.proofs.compare.Tie as tie
 
 abbrev Inv-loop : tie.InvT-loop
-Inv-loop k found₀ tally₀ shelf₀ room₀ done₀ most m₀ found tally shelf room done m = m ≤ 9
+Inv-loop k found₀ tally₀ shelf₀ room₀ done₀ m₀ found tally shelf room done m = m ≤ 9
 
 abbrev μ-loop : tie.MeasureT-loop
-μ-loop k found₀ tally₀ shelf₀ room₀ done₀ most m₀ found tally shelf room done m = 9 - m
-
-greatest-requires : tie.Need-greatest-requires Inv-loop μ-loop
-greatest-requires c κs = search needs
+μ-loop k found₀ tally₀ shelf₀ room₀ done₀ m₀ found tally shelf room done m = 9 - m
 
 loop-holds : tie.Need-loop-holds Inv-loop μ-loop
 loop-holds c = search needs
@@ -44,7 +41,6 @@ compare-spec =
     (tie.spec
     Inv-loop
     μ-loop
-    greatest-requires
     loop-holds
     compare-keys-requires
     returns
