@@ -3,7 +3,6 @@
 use Prim.Native.Nat.{ℕ}
 use mathlib.Core.List.{List}
 use mathlib.Core.Path.{_≡_}
-use lib.ListN.{length}
 use Rattle.definitions.specs.Refusals.{refusal}
 use Rattle.definitions.specs.Cards as cards
 use Rattle.cards.specs.Texts.{Laid}
