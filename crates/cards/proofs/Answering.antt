@@ -6,9 +6,7 @@ use mathlib.Core.List.{List, _++_, map}
 use mathlib.Core.Path.{_≡_, refl, sym, ap, ap₂, subst, _∙_}
 use native.Mathlib.Omega.{arith}
 use lib.Dec.{eqb}
-use lib.ListN.{length, getD, take, drop, length-append, length-take, length-map, replicate}
-use lib.Seq.{take-at}
-use Rattle.definitions.specs.Lists.{over}
+use lib.ListN.{length, getD, take, drop, length-append, replicate}
 use Rattle.definitions.specs.Words.{word, val}
 use Rattle.definitions.specs.Vigemins.{Form, keyed}
 use Rattle.definitions.specs.Shelves.{size, page}
@@ -16,7 +14,7 @@ use Rattle.definitions.specs.Refusals.{Ground, refusal}
 use Rattle.definitions.specs.Outcomes.{Counted, Paged, shelfGrounds, sizeOutcome, pageOutcome}
 use Rattle.definitions.specs.Cards.{Line as LineRead, readAnswer, readOutcome, ascii, decimal, Asked, asks, parts, wellFormed, Printed, cardGrounds, cardText, textFor, cardOutcome, settings, entries}
 use Rattle.laws.specs.Accepted.{ShelfAccepted, word-accepted, size-refusal, size-count}
-use Rattle.laws.specs.Listings.{page-outcome}
+use Rattle.laws.specs.Listings.{handed, page-handed, page-written}
 use Rattle.laws.specs.Cards.{page-words, page-small}
 use Rattle.lines.specs.Answers.{Answer as Line, lined}
 use Rattle.cards.specs.Texts.{Laid, SettingsFit, KmersFit, keyPart, wordPart}
@@ -114,12 +112,8 @@ module _ {k m key w : ℕ} (a : ShelfAccepted k m key w) where
   -- what the first page wrote
   pub first-page : {p : Paged} (old : List ℕ) → length old ≡ 16 → p ≡ pageOutcome k m key w 0 old → (p .written ≤ 16) × (take (p .written) (p .room) ≡ firstKmers)
   first-page {p} old long e =
-      let new = map val (page (keyed (word m key)) k (word m w) 0 (length old)) in
-      let is = e ∙ page-outcome a 0 old zero-le in
-      let written : p .written ≡ length new = ap (λ (q : Paged). q .written) is in
-      let room : p .room ≡ over new old = ap (λ (q : Paged). q .room) is in
-      let short : length new ≤ 16 = rw (length-map, length-take, long) (omega arith) in
-      (omega (arith, written), ap₂ take written room ∙ take-at new (drop (length new) old) (length new) refl ∙ ap (λ (n : ℕ). map val (page (keyed (word m key)) k (word m w) 0 n)) long)
+      let written : p .written ≤ length old = omega (arith, ap (λ (q : Paged). q .written) e, page-written a 0 old zero-le) in
+      (omega (arith, long), ap handed e ∙ page-handed a 0 old zero-le ∙ ap (λ (n : ℕ). map val (page (keyed (word m key)) k (word m w) 0 n)) long)
 
   -- the settings have room
   pub settings-fit : {room : ℕ} → 104 ≤ room → SettingsFit k m key w room

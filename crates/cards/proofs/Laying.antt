@@ -8,7 +8,7 @@ use native.Mathlib.Nat.{div-lt-iff-lt-mul, zero-lt-suc, mod-eq-of-lt, add-zero, 
 use native.Mathlib.Omega.{arith}
 use borrow.Author.Tests.{lt-ltb, le-ltb}
 use lib.Dec.{ltb}
-use lib.ListN.{length, getD, set, take, drop, length-append, length-drop, length-map, drop-of-length-le}
+use lib.ListN.{length, getD, set, take, drop, length-append, length-drop, length-map}
 use lib.Seq.{take-all, take-suc, length-take-le, take-append-seam, getD-at}
 use Rattle.definitions.specs.Lists.{over}
 use Rattle.definitions.specs.Words.{Word, word, text}
@@ -17,7 +17,7 @@ use Rattle.definitions.specs.Cards.{Asked, ascii, decimalIn, decimal, settings,
 use Rattle.laws.specs.Numbers.{length-text}
 use Rattle.laws.specs.Accepted.{UnpackAccepted}
 use Rattle.laws.specs.RoundTrips.{unpack-outcome}
-use Rattle.laws.specs.Rooms.{overTo-more, overTo-all, over-append, length-over}
+use Rattle.laws.specs.Rooms.{overTo-more, overTo-all, over-append, length-over, rest-whole}
 use Rattle.cards.specs.Texts.{Laid, LaidDecimal, WordFits, KmersFit, keyPart, wordPart}
 
 -- nothing is written yet
@@ -36,8 +36,8 @@ laid-as {n = n} {old = old} {room = room} e l = subst (λ (v : List ℕ). Laid v
 pub laid-next : {u v : List ℕ} {a b : ℕ} {old mid part : List ℕ} → Laid u a old mid → Laid v b (take (length mid - a) (drop a mid)) part
     → Laid (u ++ v) (a + b) old (take a mid ++ (part ++ drop (length mid - a) (drop a mid)))
 laid-next {u} {v} {a} {b} {old} {mid} {part} l r =
-    let left : take (length mid - a) (drop a mid) ≡ drop a mid = take-all (length mid - a) (drop a mid) (rw length-drop (omega arith)) in
-    let none : drop (length mid - a) (drop a mid) ≡ [] = drop-of-length-le (drop a mid) {i = length mid - a} (rw length-drop (omega arith)) in
+    let left = rest-whole a mid .0 in
+    let none = rest-whole a mid .1 in
     let fits : length v ≤ length mid - a = rw (left, length-drop) at (r .fits) in
     let whole : over (u ++ v) old ≡ take a mid ++ over v (drop a mid) = over-append u v old ∙ ap₂ (λ (n : ℕ) (m : List ℕ). take n m ++ over v (drop n m)) (sym (l .long)) (sym (l .front)) in
     record {
@@ -48,14 +48,14 @@ laid-next {u} {v} {a} {b} {old} {mid} {part} l r =
 
 -- how much room is left
 pub laid-left : {t : List ℕ} {n : ℕ} {old room : List ℕ} → Laid t n old room → length (take (length room - n) (drop n room)) ≡ length old - n
-laid-left {t} {n} {old} {room} l = rw (take-all (length room - n) (drop n room) (rw length-drop (omega arith)), length-drop, laid-length l)
+laid-left {t} {n} {old} {room} l = rw (rest-whole n room .0, length-drop, laid-length l)
 
 -- no more is told than there is room
 pub laid-most : {t : List ℕ} {n : ℕ} {old room : List ℕ} → Laid t n old room → n ≤ length old
 laid-most l = omega (arith, l .long, l .fits)
 
 -- one byte more
-pub laid-byte : {t : List ℕ} {n : ℕ} (b : ℕ) {old room : List ℕ} → Laid t n old room → n < length old → Laid (t ++ (b ∷ [])) (n + 1) old (set room n b)
+laid-byte : {t : List ℕ} {n : ℕ} (b : ℕ) {old room : List ℕ} → Laid t n old room → n < length old → Laid (t ++ (b ∷ [])) (n + 1) old (set room n b)
 laid-byte {t} {n} b {old} {room} l h =
     let more : length (t ++ (b ∷ [])) ≡ suc n = rw length-append (omega (arith, l .long)) in
     let before : room ≡ take n (t ++ (b ∷ [])) ++ drop n old = rw (l .long, take-append-seam) (l .front) in
@@ -66,7 +66,7 @@ laid-byte {t} {n} b {old} {room} l h =
     }
 
 -- a number below 10^n has at most n digits
-pub decimal-length : (n x : ℕ) → length (decimalIn n x) ≤ n
+decimal-length : (n x : ℕ) → length (decimalIn n x) ≤ n
 decimal-length zero x = zero-le
 decimal-length (suc n) x = rw length-append (go (ltb x 10) (decimal-length n (x / 10)))
   where
@@ -90,20 +90,11 @@ decimal-next {x} {n} {old} {room} h l k = record { each = each }
     each zero b = absurd (omega arith)
     each (suc d) b = rw (le-ltb x 10 h) (laid-byte (48 + x % 10) (l .each d (div-lt-iff-lt-mul (zero-lt-suc 9) .1 (omega arith))) k)
 
--- a number is below ten to a power that is as large
-below-power : (x : ℕ) → x < 10 ^ suc x
-below-power zero = omega arith
-below-power (suc x) = omega (arith, below-power x)
-
 -- the tenth part of a number of 64 bits has at most 19 digits
 pub tenth-fits : {x n : ℕ} {old room : List ℕ} → x < 2 ^ 64 → 20 ≤ length old → LaidDecimal (x / 10) n old room → n < length old
 tenth-fits {x} {n} h k l =
     let few : x / 10 < 10 ^ 19 = omega arith in
     omega (arith, l .each 18 few .long, decimal-length 19 (x / 10))
-
--- the room keeps its length
-pub laid-decimal-length : {x n : ℕ} {old room : List ℕ} → LaidDecimal x n old room → length room ≡ length old
-laid-decimal-length {x} l = laid-length (l .each x (below-power x))
 
 -- a number of 64 bits is written
 pub laid-decimal : {x n : ℕ} {old room : List ℕ} → x < 2 ^ 64 → LaidDecimal x n old room → Laid (decimal x) n old room
@@ -126,7 +117,7 @@ pub decimal-short : (x : ℕ) → x < 100 → length (decimal x) ≤ 2
 unfolding decimal
 decimal-short x h = two-digits 18 x h
 
-pub decimal-most : (x : ℕ) → length (decimal x) ≤ 20
+decimal-most : (x : ℕ) → length (decimal x) ≤ 20
 unfolding decimal
 decimal-most x = decimal-length 20 x
 
@@ -165,12 +156,12 @@ pub entry-parts : (p : ℕ) (x : Word) → entries p (x ∷ []) ≡ (decimal p +
 entry-parts p x = append-nil (decimal p ++ ascii " " ++ text x ++ ascii "\n") ∙ ap (λ (l : List ℕ). l ++ ascii "\n") (append-assoc (decimal p) (ascii " ") (text x))
 
 -- it has at most 35 bytes
-pub entry-length : (p k x : ℕ) → p < 16 → k ≤ 31 → length (entries p (word k x ∷ [])) ≤ 35
+entry-length : (p k x : ℕ) → p < 16 → k ≤ 31 → length (entries p (word k x ∷ [])) ≤ 35
 entry-length p k x h l =
     rw (entry-parts, length-append, length-append, length-append, length-text) (omega (arith, decimal-short p (omega arith)))
 
 -- lines in a row
-pub entries-append : (p : ℕ) (xs ys : List Word) → entries p (xs ++ ys) ≡ entries p xs ++ entries (p + length xs) ys
+entries-append : (p : ℕ) (xs ys : List Word) → entries p (xs ++ ys) ≡ entries p xs ++ entries (p + length xs) ys
 entries-append p [] ys = rw add-zero
 entries-append p (x ∷ xs) ys =
     ap (λ (l : List ℕ). (decimal p ++ ascii " " ++ text x ++ ascii "\n") ++ l) (entries-append (suc p) xs ys)

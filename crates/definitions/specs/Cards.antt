@@ -84,13 +84,14 @@ wellFormed s = let p = parts s in same s (lineOf p) && proper p
 abbrev pub badLine : List ℕ → Ground
 badLine s = 10 when not (wellFormed s)
 
--- what a line asks for: k, m, and the numbers of the key and the word
+-- what is asked for: k, m, and the numbers of the key and the word
 pub record Asked : Type 0 where
   pub k : ℕ
   pub m : ℕ
   pub key : ℕ
   pub word : ℕ
 
+-- what three texts ask for
 abbrev pub asks : Parts → Asked
 asks p = record { k = numberOf (p .k); m = length (p .key); key = val (spelled (p .key)); word = val (spelled (p .word)) }
 

@@ -15,7 +15,7 @@ use Rattle.definitions.specs.Words.{Word, word, isLetter}
 use Rattle.definitions.specs.Vigemins.{Form, keyed, windows}
 use Rattle.definitions.specs.Shelves.{size}
 use Rattle.definitions.specs.Refusals.{Ground, refusal, badKey, badWord, badSequence, badLetter, badRoom, badStart, badCounter, firstBad, placeBeside}
-use Rattle.definitions.specs.Outcomes.{packGrounds, unpackGrounds, orderGrounds, shelfGrounds, counterGrounds, pageGrounds, scanGrounds, packAnswer, unpackAnswer, sizeAnswer, sizeOutcome, worksheetAnswer, counterAnswer, scanAnswer, asBytes, scanBytesOutcome}
+use Rattle.definitions.specs.Outcomes.{packGrounds, unpackGrounds, orderGrounds, shelfGrounds, counterGrounds, pageGrounds, scanGrounds, packAnswer, packOutcome, unpackAnswer, sizeAnswer, sizeOutcome, worksheetAnswer, counterAnswer, scanAnswer, asBytes, scanBytesOutcome}
 use Rattle.laws.specs.Numbers.{firstBad-all}
 use Rattle.laws.specs.Refusals.{refusal-unmet, unmet-refusal, refusal-append, refusal-most}
 
@@ -231,7 +231,12 @@ unfolding scanAnswer
 scanAnswer-place zero entries f k m s room = refl
 scanAnswer-place (suc r) entries f k m s room = refl
 
--- ---- the size
+-- ---- packing, and the size
+
+-- the refusal of packing is that of its grounds
+pub pack-refusal : (t : List ℕ) → packOutcome t .refusal ≡ refusal (packGrounds t)
+unfolding packOutcome
+pack-refusal t = packAnswer-refusal (refusal (packGrounds t)) t
 
 -- the refusal of a size is that of its shelf
 pub size-refusal : (k m key w : ℕ) → sizeOutcome k m key w .refusal ≡ refusal (shelfGrounds k m key w)

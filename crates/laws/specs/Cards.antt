@@ -10,7 +10,7 @@ use native.Mathlib.Omega.{arith}
 use borrow.Author.Tests.{lt-leb, eq-eqb, ne-eqb, eqb-true, not-true}
 use lib.Dec.{eqb}
 use lib.ListN.{length, getD, take, drop, length-append, length-drop, length-map, drop-of-length-le}
-use lib.Seq.{length-take-le, take-nil, take-all, split-at, take-append-seam, drop-append-add, getD-take, getD-drop}
+use lib.Seq.{length-take-le, split-at, take-append-seam, drop-append-add, getD-take, getD-drop}
 use Rattle.definitions.specs.Lists.{all, firstPlace}
 use Rattle.definitions.specs.Words.{Word, Mer, same, val, word, isLetter, spelled}
 use Rattle.definitions.specs.Vigemins.{Form}
@@ -22,10 +22,11 @@ use Rattle.laws.specs.Tests.{and-l, and-r, and-i, contrary, test-ext, sa
 use Rattle.laws.specs.Filters.{at-mem, mem-at, at-map}
 use Rattle.laws.specs.Numbers.{number-lt, digits-number, spelled-small}
 use Rattle.laws.specs.Catalogue.{shelf-holds, page-length}
+use Rattle.laws.specs.Rooms.{rest-whole}
 use Rattle.laws.specs.Places.{firstPlace-holds, firstPlace-le}
 use Rattle.laws.specs.Accepted.{PackAccepted, pack-accepted}
 
--- the part before the first byte of a kind is as long as the first place tells
+-- the part before the first byte b is as long as the first place tells
 pub length-before : (b : ℕ) (s : List ℕ) → length (before b s) ≡ firstPlace (eqb b) s
 length-before b s = length-take-le (firstPlace (eqb b) s) s (firstPlace-le (eqb b) s)
 
@@ -36,12 +37,12 @@ length-behind b s = rw (length-before b s) (length-drop (suc (firstPlace (eqb b)
 -- that part, cut at the place that was found
 pub behind-part : (b : ℕ) (s : List ℕ) {a : ℕ} → a ≡ firstPlace (eqb b) s → take (length s - (a + 1)) (drop (a + 1) s) ≡ behind b s
 behind-part b s {a} e =
-    take-all (length s - (a + 1)) (drop (a + 1) s) (rw length-drop (omega arith)) ∙ ap (λ (n : ℕ). drop n s) (add-one a ∙ ap suc e)
+    rest-whole (a + 1) s .0 ∙ ap (λ (n : ℕ). drop n s) (add-one a ∙ ap suc e)
 
 -- where there is no such byte, nothing is behind it
 pub behind-none : (b : ℕ) (s : List ℕ) {a : ℕ} → length s ≤ a → a ≡ firstPlace (eqb b) s → take (length s - a) (drop a s) ≡ behind b s
 behind-none b s {a} h e =
-    ap (take (length s - a)) (drop-of-length-le s h) ∙ take-nil (length s - a) ∙ sym (drop-of-length-le s {i = suc (firstPlace (eqb b) s)} (omega (arith, e)))
+    rest-whole a s .0 ∙ drop-of-length-le s h ∙ sym (drop-of-length-le s {i = suc (firstPlace (eqb b) s)} (omega (arith, e)))
 
 -- where there is such a byte, the two parts and the byte between them are the text
 cut-whole : (b : ℕ) (s : List ℕ) → length (before b s) < length s → before b s ++ (b ∷ behind b s) ≡ s
@@ -107,18 +108,14 @@ proper-parts p e =
       alike = eqb-true (length (p .key)) (length (p .word)) (and-r (n && a && b) l e);
     }
 
--- a byte of another kind than one that passes a test
-other-byte : (p : ℕ → Bool) (b c : ℕ) → p b ≡ false → p c ≡ true → not (eqb b c) ≡ true
-other-byte p b c n e = ap not (ne-eqb b c (λ q. contrary (p c) e (ap p (sym q) ∙ n)))
-
--- one or two digits, none of which is a space
-number-short : (t : List ℕ) → isNumber t ≡ true → (length t ≤ 2) × (all (λ c. not (eqb space c)) t ≡ true)
+-- one or two digits
+pub number-short : (t : List ℕ) → isNumber t ≡ true → (length t ≤ 2) × (all isDigit t ≡ true)
 number-short [] e = absurd (true≢false (sym e))
-number-short (a ∷ []) e = (omega arith, and-i (not (eqb space a)) true (other-byte isDigit space a refl e) refl)
+number-short (a ∷ []) e = (omega arith, and-i (isDigit a) true e refl)
 number-short (a ∷ b ∷ []) e =
     let first = and-l (isDigit a) (not (eqb a 48)) (and-l (isDigit a && not (eqb a 48)) (isDigit b) e) in
     let second = and-r (isDigit a && not (eqb a 48)) (isDigit b) e in
-    (omega arith, and-i (not (eqb space a)) (not (eqb space b) && true) (other-byte isDigit space a refl first) (and-i (not (eqb space b)) true (other-byte isDigit space b refl second) refl))
+    (omega arith, and-i (isDigit a) (isDigit b && true) first (and-i (isDigit b) true second refl))
 number-short (a ∷ b ∷ c ∷ t) e = absurd (true≢false (sym e))
 
 -- a well-formed input has at most 67 bytes, so what has more is refused however it goes on
@@ -128,21 +125,22 @@ formed-short s e =
     let p = proper-parts (parts s) (f .1) in
     omega (arith, ap length (f .0), length-line (parts s), number-short (parts s .k) (p .number) .0, p .key .few, p .word .few)
 
--- a text of letters has no byte that is none
-letters-other : (b : ℕ) → isLetter b ≡ false → (t : List ℕ) → all isLetter t ≡ true → all (λ c. not (eqb b c)) t ≡ true
-letters-other b n [] e = refl
-letters-other b n (c ∷ t) e =
-    and-i (not (eqb b c)) (all (λ x. not (eqb b x)) t) (other-byte isLetter b c n (and-l (isLetter c) (all isLetter t) e))
-    (letters-other b n t (and-r (isLetter c) (all isLetter t) e))
+-- a text whose bytes all pass a test has no byte that does not
+all-other : (p : ℕ → Bool) (b : ℕ) → p b ≡ false → (t : List ℕ) → all p t ≡ true → all (λ c. not (eqb b c)) t ≡ true
+all-other p b n [] e = refl
+all-other p b n (c ∷ t) e =
+    and-i (not (eqb b c)) (all (λ x. not (eqb b x)) t)
+    (ap not (ne-eqb b c (λ q. contrary (p c) (and-l (p c) (all p t) e) (ap p (sym q) ∙ n))))
+    (all-other p b n t (and-r (p c) (all p t) e))
 
--- the first byte of a kind behind a text that has none
+-- the place of the first byte b behind a text that has none
 first-behind : (b : ℕ) (u v : List ℕ) → all (λ c. not (eqb b c)) u ≡ true → firstPlace (eqb b) (u ++ (b ∷ v)) ≡ length u
 first-behind b [] v e = rw (eq-eqb b b refl)
 first-behind b (c ∷ u) v e =
     rw (not-true (eqb b c) (and-l (not (eqb b c)) (all (λ x. not (eqb b x)) u) e))
     (ap suc (first-behind b u v (and-r (not (eqb b c)) (all (λ x. not (eqb b x)) u) e)))
 
--- it cuts the text off
+-- so it cuts the text off
 cut-behind : (b : ℕ) (u v : List ℕ) → all (λ c. not (eqb b c)) u ≡ true → (before b (u ++ (b ∷ v)) ≡ u) × (behind b (u ++ (b ∷ v)) ≡ v)
 cut-behind b u v e = (
   ap (λ (n : ℕ). take n (u ++ (b ∷ v))) (first-behind b u v e) ∙ take-append-seam u (b ∷ v),
@@ -154,9 +152,9 @@ pub line-formed : (p : Parts) → proper p ≡ true → (parts (lineOf p) ≡ p)
 line-formed p e =
     let q = proper-parts p e in
     let rest = p .key ++ (space ∷ (p .word ++ (lineFeed ∷ []))) in
-    let first = cut-behind space (p .k) rest (number-short (p .k) (q .number) .1) in
-    let second = cut-behind space (p .key) (p .word ++ (lineFeed ∷ [])) (letters-other space refl (p .key) (q .key .allLetters)) in
-    let third = cut-behind lineFeed (p .word) [] (letters-other lineFeed refl (p .word) (q .word .allLetters)) in
+    let first = cut-behind space (p .k) rest (all-other isDigit space refl (p .k) (number-short (p .k) (q .number) .1)) in
+    let second = cut-behind space (p .key) (p .word ++ (lineFeed ∷ [])) (all-other isLetter space refl (p .key) (q .key .allLetters)) in
+    let third = cut-behind lineFeed (p .word) [] (all-other isLetter lineFeed refl (p .word) (q .word .allLetters)) in
     let same-parts : parts (lineOf p) ≡ p = rw (line-nested p, first .0, first .1, second .0, second .1, third .0) in
     (same-parts, and-i (same (lineOf p) (lineOf (parts (lineOf p)))) (proper (parts (lineOf p))) (eq-same (ap lineOf (sym same-parts))) (ap proper same-parts ∙ e))
 

@@ -80,7 +80,7 @@ module _ {k m key number : ℕ} (a : ShelfAccepted k m key number) where
   page-outcome start room h = ap (λ r. pageAnswer r f k w start room) (accepted-page (record { shelf = a; starts = h }))
 
   -- it hands that out
-  page-handed : (start : ℕ) (room : List ℕ) → start ≤ size f k w → handed (paging start room) ≡ map val (page f k w start (length room))
+  pub page-handed : (start : ℕ) (room : List ℕ) → start ≤ size f k w → handed (paging start room) ≡ map val (page f k w start (length room))
   page-handed start room h = ap handed (page-outcome start room h) ∙ take-at (map val (page f k w start (length room))) _ _ refl
 
   -- so many it writes

@@ -1,6 +1,6 @@
 -- Room that is written entry by entry, from its start on or behind a place, and positions as bytes.
 -- Assumes nothing.
-use Prim.Native.Nat.{ℕ, suc, _+_, _*_, _≤_, _<_}
+use Prim.Native.Nat.{ℕ, suc, _+_, _-_, _*_, _≤_, _<_}
 use mathlib.Core.Bool.{Bool, true, false}
 use mathlib.Core.List.{List, [], _∷_, _++_, append-assoc}
 use mathlib.Core.Logic.{_⊎_, inl, inr, ⊎-elim}
@@ -9,8 +9,8 @@ use native.Mathlib.Numerals.{add-one}
 use native.Mathlib.Omega.{arith}
 use borrow.Author.Tests.{eqb-true, eqb-false}
 use lib.Dec.{eqb}
-use lib.ListN.{length, getD, set, take, drop, length-set, length-append, length-drop}
-use lib.Seq.{take-append-seam, drop-append-seam, length-take-le, drop-cons, drop-drop, take-add, take-at, drop-at, take-length, length-front, sets, sets-eq, getD-set-same, getD-set-other}
+use lib.ListN.{length, getD, set, take, drop, length-set, length-append, length-drop, drop-of-length-le}
+use lib.Seq.{take-append-seam, drop-append-seam, length-take-le, drop-cons, drop-drop, take-add, take-at, drop-at, take-all, take-length, length-front, sets, sets-eq, getD-set-same, getD-set-other}
 use Rattle.definitions.specs.Lists.{over}
 use Rattle.definitions.specs.Words.{bytes}
 use Rattle.definitions.specs.Outcomes.{asBytes}
@@ -26,6 +26,12 @@ module _ {A : Type 0} where
   -- writing keeps the length
   pub length-over : (u old : List A) → length u ≤ length old → length (over u old) ≡ length old
   length-over u old h = rw (length-append, length-drop) (omega arith)
+
+  -- what lies behind a place, taken to its end, and nothing behind that
+  pub rest-whole : (n : ℕ) (l : List A) → (take (length l - n) (drop n l) ≡ drop n l) × (drop (length l - n) (drop n l) ≡ [])
+  rest-whole n l =
+      let long : length (drop n l) ≤ length l - n = omega (arith, length-drop n l) in
+      (take-all (length l - n) (drop n l) long, drop-of-length-le (drop n l) long)
 
   -- room of which the first i entries are written
   abbrev pub overTo : ℕ → List A → List A → List A

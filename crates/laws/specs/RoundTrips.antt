@@ -15,12 +15,12 @@ use Rattle.definitions.specs.Words.{Letters, val, word, letterOf, isLetter, spe
 use Rattle.definitions.specs.Vigemins.{Form, keyed, windows, vigeminAt, vigemin, scan}
 use Rattle.definitions.specs.Shelves.{antemers, row}
 use Rattle.definitions.specs.Refusals.{refusal}
-use Rattle.definitions.specs.Outcomes.{Packed, packGrounds, packAnswer, packOutcome, unpackGrounds, unpackAnswer, unpackOutcome, vigeminAnswer, vigeminOutcome, worksheetAnswer, worksheetOutcome, counterGrounds, counterAnswer, counterOutcome, scanGrounds, scanAnswer, scanOutcome}
+use Rattle.definitions.specs.Outcomes.{Packed, packAnswer, packOutcome, unpackGrounds, unpackAnswer, unpackOutcome, vigeminAnswer, vigeminOutcome, worksheetAnswer, worksheetOutcome, counterGrounds, counterAnswer, counterOutcome, scanGrounds, scanAnswer, scanOutcome}
 use Rattle.laws.specs.Filters.{tabulate-at}
 use Rattle.laws.specs.Numbers.{four-pos, digits-below, number-digits-lt, digits-number, spelled-text, text-spelled, spelled-letters, text-letters, length-text, spelled-small}
 use Rattle.laws.specs.Minima.{length-stretch, all-stretch, map-stretch, length-windows}
 use Rattle.laws.specs.Scans.{length-scan, scan-at, scan-inside, scan-word}
-use Rattle.laws.specs.Accepted.{PackAccepted, pack-accepted, accepted-pack, UnpackAccepted, unpack-accepted, accepted-unpack, VigeminAccepted, accepted-word, counter-accepted, accepted-counter, counterAnswer-refusal, ScanAccepted, scan-accepted, accepted-scan, packAnswer-refusal, unpackAnswer-refusal, scanAnswer-refusal}
+use Rattle.laws.specs.Accepted.{PackAccepted, pack-accepted, accepted-pack, UnpackAccepted, unpack-accepted, accepted-unpack, VigeminAccepted, accepted-word, counter-accepted, accepted-counter, counterAnswer-refusal, ScanAccepted, scan-accepted, accepted-scan, pack-refusal, unpackAnswer-refusal, scanAnswer-refusal}
 
 -- ---- what is answered where nothing is refused
 
@@ -30,8 +30,7 @@ unfolding packOutcome packAnswer
 pack-outcome {t} a = ap (λ r. packAnswer r t) (accepted-pack a)
 
 packed-accepted : (t : List ℕ) → packOutcome t .refusal ≡ 0 → PackAccepted t
-unfolding packOutcome
-packed-accepted t z = pack-accepted t (sym (packAnswer-refusal (refusal (packGrounds t)) t) ∙ z)
+packed-accepted t z = pack-accepted t (sym (pack-refusal t) ∙ z)
 
 -- a word that unpacking accepts is written over the front of the room
 pub unpack-outcome : {x n : ℕ} {room : List ℕ} → UnpackAccepted x n room

@@ -1,16 +1,18 @@
 -- The number that a text of one or two digits spells.
 -- Assumes nothing.
-use Prim.Native.Nat.{ℕ, _+_, _-_, _*_, _<_}
-use mathlib.Core.Bool.{Bool, true, false, cond, not, _&&_, and-true, and-false, true≢false}
+use Prim.Native.Nat.{ℕ, _+_, _-_, _*_, _≤_, _<_}
+use mathlib.Core.Bool.{Bool, true, false, cond, not, _&&_, and-true, and-false}
 use mathlib.Core.List.{List, [], _∷_}
 use mathlib.Core.Logic.{_⊎_, inl, inr, ⊎-elim}
-use mathlib.Core.Path.{_≡_, refl, sym}
+use mathlib.Core.Path.{_≡_, refl}
 use native.Mathlib.Omega.{arith}
 use borrow.Author.Tests.{leb-true, lt-ltb, ne-eqb, eqb-true, eqb-false}
 use lib.Dec.{leb, ltb, eqb}
 use lib.ListN.{length, getD}
+use Rattle.definitions.specs.Lists.{all}
 use Rattle.definitions.specs.Cards.{isDigit, isNumber, numberOf}
 use Rattle.laws.specs.Tests.{and-l, and-r}
+use Rattle.laws.specs.Cards.{number-short}
 use Rattle.lines.specs.Answers.{digitOf, spelledIn}
 
 -- a byte spells a digit, or none
@@ -57,18 +59,19 @@ spells-none (a ∷ []) h k = absurd (h refl)
 spells-none (a ∷ b ∷ []) h k = absurd (k refl)
 spells-none (a ∷ b ∷ c ∷ s) h k = refl
 
+-- a digit is below 10
 digit-small : (b : ℕ) → isDigit b ≡ true → b - 48 < 10
 digit-small b e = let high = leb-true b 57 (and-r (leb 48 b) (leb b 57) e) in omega arith
 
--- two digits spell a number below 100
-number-small : (s : List ℕ) → isNumber s ≡ true → numberOf s < 100
-number-small [] e = absurd (true≢false (sym e))
-number-small (a ∷ []) e = omega (arith, digit-small a e)
-number-small (a ∷ b ∷ []) e =
-    let first = and-l (isDigit a) (not (eqb a 48)) (and-l (isDigit a && not (eqb a 48)) (isDigit b) e) in
-    let second = and-r (isDigit a && not (eqb a 48)) (isDigit b) e in
-    omega (arith, digit-small a first, digit-small b second)
-number-small (a ∷ b ∷ c ∷ s) e = absurd (true≢false (sym e))
+-- one or two spell a number below 100
+number-small : (s : List ℕ) → (length s ≤ 2) × (all isDigit s ≡ true) → numberOf s < 100
+number-small [] h = omega arith
+number-small (a ∷ []) h = omega (arith, digit-small a (and-l (isDigit a) true (h .1)))
+number-small (a ∷ b ∷ []) h =
+    let first = digit-small a (and-l (isDigit a) (isDigit b && true) (h .1)) in
+    let second = digit-small b (and-l (isDigit b) true (and-r (isDigit a) (isDigit b && true) (h .1))) in
+    omega arith
+number-small (a ∷ b ∷ c ∷ s) h = absurd (omega (arith, h .0))
 
 -- so 100 is told from what is spelled
 pub spelled-test : (s : List ℕ) → eqb (spelledIn s) 100 ≡ not (isNumber s)
@@ -76,4 +79,4 @@ spelled-test s = go (isNumber s) refl
   where
     go : (t : Bool) → isNumber s ≡ t → eqb (cond t (numberOf s) 100) 100 ≡ not t
     go false e = refl
-    go true e = ne-eqb (numberOf s) 100 (λ q. omega (arith, number-small s e))
+    go true e = ne-eqb (numberOf s) 100 (λ q. omega (arith, number-small s (number-short s e)))

@@ -15,9 +15,9 @@ use Rattle.definitions.specs.Cards.{space, lineFeed, before, behind, Parts, par
 use Rattle.laws.specs.Tests.{not-and}
 use Rattle.laws.specs.RoundTrips.{pack-outcome}
 use Rattle.laws.specs.Places.{firstPlace-le}
-use Rattle.laws.specs.Accepted.{packAnswer-refusal}
+use Rattle.laws.specs.Accepted.{pack-refusal}
 use Rattle.laws.specs.Cards.{length-before, length-behind, line-test, proper-parts}
-use Rattle.lines.specs.Answers.{spelledIn, malformedLine, partsOutcome}
+use Rattle.lines.specs.Answers.{spelledIn, malformedLine, partsOf, partsOutcome}
 use Rattle.lines.proofs.Numerals.{spelled-test}
 
 -- ---- the line of an input
@@ -34,10 +34,6 @@ pub record Cuts (s k rest key last word : List ℕ) : Type 0 where
 cond-not : (t : Bool) → _≡_ {A = ℕ} (cond (not t) 10 0) (cond t 0 10)
 cond-not true = refl
 cond-not false = refl
-
--- three texts as parts
-abbrev pub partsOf : List ℕ → List ℕ → List ℕ → Parts
-partsOf k key word = record { k = k; key = key; word = word }
 
 -- a part before a byte is no longer than the text
 before-le : (b : ℕ) (s : List ℕ) → length (before b s) ≤ length s
@@ -92,14 +88,13 @@ module _ {s k rest key last word : List ℕ} (c : Cuts s k rest key last word) w
 
 -- ---- the line of three texts
 
--- what packing answered
-packed-refusal : (t : List ℕ) {o : Packed} → o ≡ packOutcome t → o .refusal ≡ refusal (packGrounds t)
-unfolding packOutcome
-packed-refusal t e = ap (λ (p : Packed). p .refusal) e ∙ packAnswer-refusal (refusal (packGrounds t)) t
+-- whether a test of three texts is met, from the number of the first and what packing the others refuses
+abbrev badParts : Parts → ℕ → ℕ → ℕ → Bool
+badParts p n r q = ((eqb n 100 || not (eqb r 0)) || not (eqb q 0)) || not (eqb (length (p .key)) (length (p .word)))
 
--- the tests of three texts
+-- one is met exactly if they are not proper
 parts-test : (p : Parts) {n r q : ℕ} → n ≡ spelledIn (p .k) → r ≡ refusal (packGrounds (p .key)) → q ≡ refusal (packGrounds (p .word))
-    → (((eqb n 100 || not (eqb r 0)) || not (eqb q 0)) || not (eqb (length (p .key)) (length (p .word)))) ≡ not (proper p)
+    → badParts p n r q ≡ not (proper p)
 parts-test p e f g =
     let a = isNumber (p .k) in
     let b = isWord (p .key) in
@@ -110,17 +105,18 @@ parts-test p e f g =
 
 module _ (p : Parts) {n : ℕ} {o q : Packed} (e : n ≡ spelledIn (p .k)) (f : o ≡ packOutcome (p .key)) (g : q ≡ packOutcome (p .word)) where
   -- the tests of the code
-  tests : (((eqb n 100 || not (eqb (o .refusal) 0)) || not (eqb (q .refusal) 0)) || not (eqb (length (p .key)) (length (p .word)))) ≡ not (proper p)
-  tests = parts-test p e (packed-refusal (p .key) f) (packed-refusal (p .word) g)
+  tests : badParts p n (o .refusal) (q .refusal) ≡ not (proper p)
+  tests =
+      parts-test p e (ap (λ (u : Packed). u .refusal) f ∙ pack-refusal (p .key)) (ap (λ (u : Packed). u .refusal) g ∙ pack-refusal (p .word))
 
   -- where one is met, the line is malformed
-  pub parts-bad : {r : Line} → (((eqb n 100 || not (eqb (o .refusal) 0)) || not (eqb (q .refusal) 0)) || not (eqb (length (p .key)) (length (p .word)))) ≡ true
+  pub parts-bad : {r : Line} → badParts p n (o .refusal) (q .refusal) ≡ true
       → r ≡ malformedLine → r ≡ partsOutcome (p .k) (p .key) (p .word)
   unfolding readAnswer
   parts-bad t e = let bad : proper p ≡ false = not-true (proper p) (sym tests ∙ t) in e ∙ rw bad
 
   -- where none is, it asks for their numbers
-  pub parts-good : (((eqb n 100 || not (eqb (o .refusal) 0)) || not (eqb (q .refusal) 0)) || not (eqb (length (p .key)) (length (p .word)))) ≡ false
+  pub parts-good : badParts p n (o .refusal) (q .refusal) ≡ false
       → _≡_ {A = Line} (record { refusal = 0; asked = record { k = n; m = length (p .key); key = o .word; word = q .word } }) (partsOutcome (p .k) (p .key) (p .word))
   unfolding readAnswer
   parts-good t =

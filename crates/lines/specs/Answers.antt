@@ -26,8 +26,10 @@ digitOf b = cond (cards.isDigit b) (b - 48) 10
 abbrev pub spelledIn : List ℕ → ℕ
 spelledIn s = cond (cards.isNumber s) (cards.numberOf s) 100
 
+-- three texts as parts
+abbrev pub partsOf : List ℕ → List ℕ → List ℕ → cards.Parts
+partsOf k key w = record { k = k; key = key; word = w }
+
 -- the outcome of three texts: the line is malformed where they are not proper
 abbrev pub partsOutcome : List ℕ → List ℕ → List ℕ → cards.Line
-partsOutcome k key w =
-    let p : cards.Parts = record { k = k; key = key; word = w } in
-    cards.readAnswer (cond (cards.proper p) 0 10) (cards.asks p)
+partsOutcome k key w = cards.readAnswer (cond (cards.proper (partsOf k key w)) 0 10) (cards.asks (partsOf k key w))

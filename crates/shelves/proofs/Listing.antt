@@ -10,14 +10,14 @@ use native.Mathlib.Numerals.{add-one}
 use native.Mathlib.Omega.{arith}
 use lib.ListN.{length, getD, take, drop, set, length-append, length-take, length-drop, length-map, drop-of-length-le}
 use lib.Pow.{pow-add}
-use lib.Seq.{take-all, take-nil, drop-nil, take-suc}
+use lib.Seq.{take-nil, drop-nil, take-suc}
 use Rattle.definitions.specs.Lists.{filter, tabulate, over}
 use Rattle.definitions.specs.Words.{Word, letters, words, val}
 use Rattle.laws.specs.Numbers.{letters-at, four-pos}
 use Rattle.laws.specs.Filters.{filter-full, take-least, part-append, joined, joined-append, map-joined, length-tabulate, tabulate-at, tabulate-agree, drop-tabulate, map-tabulate}
 use Rattle.laws.specs.Counting.{map-agree, filter-words, length-words, words-numbers}
 use Rattle.laws.specs.Walks.{below-cond, accepts, rest, accepts-split, rest-count, ways-count, ways-le}
-use Rattle.laws.specs.Rooms.{over-append, length-over, overTo, length-overTo, overTo-more}
+use Rattle.laws.specs.Rooms.{over-append, length-over, overTo, length-overTo, overTo-more, rest-whole}
 use Rattle.shelves.proofs.Ways.{live-lt}
 use Rattle.shelves.specs.Descents.{allowed, leads, met, waysFrom, waysUnder, completing, Ready, numbered, under, Listed, Descending, AtOnce, Longer}
 
@@ -211,12 +211,6 @@ module _ {moves ban : List ℕ} {left s begun skip : ℕ} {old room : List ℕ} 
       → written + n ≤ length old
   going-room l = omega (arith, going-fits, going-long, listed-fits l, length-take (length room - written) (drop written room))
 
-  -- the room behind what is written, with nothing behind it
-  behind-all : (take (length room - written) (drop written room) ≡ drop written room) × (drop (length room - written) (drop written room) ≡ [])
-  behind-all =
-      let long : length (drop written room) ≤ length room - written = omega (arith, length-drop written room) in
-      (take-all (length room - written) (drop written room) long, drop-of-length-le (drop written room) long)
-
   module _ {ways : ℕ} (few : letter < 4) (known : ways ≡ waysUnder moves ban s (left - 1) letter) where
     -- those under a letter
     abbrev here : List ℕ
@@ -238,8 +232,8 @@ module _ {moves ban : List ℕ} {left s begun skip : ℕ} {old room : List ℕ} 
     going-into {after} {room′} {n} h l e p q =
         let under-here = letter-under moves ban (left - 1) s begun letter passed (omega arith) .0 in
         let lists-here : Listed here (skip - length (before moves ban left s begun letter)) (drop written room) after n =
-        rw (under-here, ← g .passes, ← behind-all .0) l in
-        let room-is : room′ ≡ take written room ++ after = e ∙ rw (behind-all .1, append-nil) in
+        rw (under-here, ← g .passes, ← rest-whole written room .0) l in
+        let room-is : room′ ≡ take written room ++ after = e ∙ rw (rest-whole written room .1, append-nil) in
         record {
           few = omega arith;
           passes = omega (arith, g .passes, length-more);

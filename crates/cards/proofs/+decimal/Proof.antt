@@ -1,12 +1,12 @@
 -- The proof of the cycle of calls {decimal}. The measure is the number.
 -- Assumes nothing.
 use Prim.Native.Nat.{ℕ, _+_, _%_, _<_}
-use mathlib.Core.Path.{_∙_}
+use mathlib.Core.Path.{_≡_, _∙_}
 use native.Mathlib.Omega.{arith}
 use borrow.Fn.Kinds.{In}
 use borrow.Fn.PlainCycle.{Measures, is, falls, and}
 use lib.ListN.{length, length-set}
-use Rattle.cards.proofs.Laying.{decimal-one, decimal-next, tenth-fits, laid-decimal-length}
+use Rattle.cards.proofs.Laying.{decimal-one, decimal-next, tenth-fits, laid-length, laid-decimal}
 use Rattle.cards.proofs.decimal.Reads as decimal
 use Rattle.cards.proofs.decimal.Kinds as decimal-kinds
 use Rattle.cards.proofs.+decimal.Lts-decimal as decimal-lts
@@ -72,11 +72,16 @@ fits t c =
     let start = c .before .before .before .before .before .before in
     tenth-fits (start .good .0 .1) (start .pre .1) (c .before .before .decimal .ensures)
 
+-- the room keeps its length
+kept : (t : ℕ) (c : decimal-lts.After-slice-known2 (decimal-below t, decimal.Post) (decimal-at t) decimal.Post)
+    → length (c .before .before .decimal .last .1 .0) ≡ length (c .before .before .before .before .before .before .args .room .now)
+kept t c = laid-length (laid-decimal (omega (arith, c .before .before .before .before .before .before .good .0 .1)) (c .before .before .decimal .ensures))
+
 decimal-slice-write-room-2 : (t : ℕ) → decimal-lts.Need-slice-write-room-2 (
   decimal-below t,
   decimal.Post,
 ) (decimal-at t) decimal.Post
-decimal-slice-write-room-2 t c = rw (laid-decimal-length (c .before .before .decimal .ensures)) (fits t c)
+decimal-slice-write-room-2 t c = rw (kept t c) (fits t c)
 
 decimal-add-result :
     (t : ℕ) →
@@ -86,7 +91,7 @@ decimal-add-result t c = omega (arith, fits t c, c .before .before .before .befo
 decimal-same-length-2 :
     (t : ℕ) →
     decimal-lts.Need-same-length-2 (decimal-below t, decimal.Post) (decimal-at t) decimal.Post
-decimal-same-length-2 t c = length-set (c .before .before .decimal .last .1 .0) (c .before .before .decimal .result) (48 + c .before .before .before .before .before .before .args .number % 10) ∙ laid-decimal-length (c .before .before .decimal .ensures)
+decimal-same-length-2 t c = length-set (c .before .before .decimal .last .1 .0) (c .before .before .decimal .result) (48 + c .before .before .before .before .before .before .args .number % 10) ∙ kept t c
 
 decimal-returns-2 :
     (t : ℕ) →

@@ -1,7 +1,8 @@
 -- `lines::read_parts` meets its contract.
 -- Assumes nothing.
 use borrow.Author.Needs.{needs}
-use Rattle.lines.proofs.Parts.{partsOf, parts-bad, parts-good}
+use Rattle.lines.specs.Answers.{partsOf}
+use Rattle.lines.proofs.Parts.{parts-bad, parts-good}
 use Rattle.lines.proofs.read_parts.Statement.{statement}
 use Rattle.lines.proofs.read_parts.Tie as tie
 
