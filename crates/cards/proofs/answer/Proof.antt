@@ -60,10 +60,10 @@ head-requires : tie.Need-head-requires
 head-requires c κs = settings-fit (shelf (c .before .before .before .before)) (omega (arith, c .before .before .before .before .before .before .before .before .before .before .pre))
 
 array-share-prefix-kmers : tie.Need-array-share-prefix-kmers
-array-share-prefix-kmers c = shown (c .before .before .before .before .before) .0
+array-share-prefix-kmers c = omega (arith, shown (c .before .before .before .before .before) .0, shown (c .before .before .before .before .before) .1)
 
 slice-aggregate-list : tie.Need-slice-aggregate-list
-slice-aggregate-list c = sym (length-take-le (c .before .before .before .before .before .before .page .result .written) (c .before .before .before .before .before .before .page .last .1 .1 .1 .1 .1 .0) (shown (c .before .before .before .before .before .before) .0))
+slice-aggregate-list c = sym (length-take-le _ (c .before .before .before .before .before .before .page .last .1 .1 .1 .1 .1 .0) (array-share-prefix-kmers (c .before)))
 
 sub-list : tie.Need-sub-list
 sub-list c = search needs

@@ -1,7 +1,8 @@
 -- `lines::number` meets its contract.
 -- Assumes nothing.
 use Prim.Native.Nat.{_<_}
-use mathlib.Core.Bool.{_&&_}
+use mathlib.Core.Bool.{true, _&&_}
+use mathlib.Core.Path.{_≡_}
 use native.Mathlib.Omega.{arith}
 use borrow.Author.Tests.{ltb-true, lt-ltb, le-ltb}
 use borrow.Author.Needs.{needs}
@@ -42,6 +43,13 @@ shared-slice-read-digit-3 c = search needs
 digit-requires-3 : tie.Need-digit-requires-3
 digit-requires-3 c κs = search needs
 
+returns-3 : tie.Need-returns-3
+returns-3 c =
+    let t = c .before .before .before .digit2 .result in
+    let o = c .before .digit3 .result in
+    let tested : ((ltb 0 t && ltb t 10) && ltb o 10) ≡ true = c .if4 .taken in
+    rw (spells-two (c .before .before .before .before .before .before .before .before .args .text .now) (c .before .before .before .before .before .if3 .taken) (c .before .before .before .digit2 .ensures) (c .before .digit3 .ensures), tested)
+
 -- the two digits are below 10
 small : (c : lts.Then4 (digit-reads.Asked, digit-reads.Learnt) reads.Pre reads.Post) → (c .before .before .before .digit2 .result < 10) × (c .before .digit3 .result < 10)
 small c =
@@ -56,9 +64,6 @@ mul-result c = omega (arith, small c)
 
 add-result : tie.Need-add-result
 add-result c = omega (arith, small c)
-
-returns-3 : tie.Need-returns-3
-returns-3 c = rw (spells-two (c .before .before .before .before .before .before .before .before .args .text .now) (c .before .before .before .before .before .if3 .taken) (c .before .before .before .digit2 .ensures) (c .before .digit3 .ensures), c .if4 .taken)
 
 returns-4 : tie.Need-returns-4
 returns-4 c = rw (spells-two (c .before .before .before .before .before .before .before .before .args .text .now) (c .before .before .before .before .before .if3 .taken) (c .before .before .before .digit2 .ensures) (c .before .digit3 .ensures), c .if4 .left)
