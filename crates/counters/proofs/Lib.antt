@@ -5,8 +5,10 @@
 -- Tests         the tests of document 01's rules at a place, by the numbers of the signs
 -- Direct        the first letters of the word tested directly
 -- Counts        counts of antemers by shared prefix, as they are summed up
+-- Determined    the contracts determine the outcomes
 pub mod Signs
 pub mod Searches
 pub mod Tests
 pub mod Direct
 pub mod Counts
+pub mod Determined

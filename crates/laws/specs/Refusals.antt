@@ -1,8 +1,8 @@
--- Refusals: the number given is that of a ground that is met, it is 0 only where none is, and it is the lowest where the list
--- increases.
+-- Refusals: the number given is that of a ground that is met, it is 0 only where none is, and it is the lowest where no number of
+-- the list is below one before it.
 -- Assumes nothing.
 use Prim.Native.Nat.{ℕ, _≤_, _<_}
-use mathlib.Core.Bool.{Bool, true, false, cond}
+use mathlib.Core.Bool.{Bool, true, false, cond, _&&_}
 use mathlib.Core.List.{List, [], _∷_, _++_, map, List·Memᴰ, List·Memᴰ·head, List·Memᴰ·tail, List·Memᴰ·cases-cons, List·Memᴰ·not-nil}
 use mathlib.Core.Logic.{_⊎_, inl, inr, ⊎-elim}
 use mathlib.Core.Path.{_≡_, refl, ap, _∙_}
@@ -12,15 +12,11 @@ use lib.Dec.{eqb, leb}
 use Rattle.definitions.specs.Refusals.{Ground, refusal}
 use Rattle.definitions.specs.Lists.{all}
 use Rattle.laws.specs.Tests.{contrary, and-l, and-r}
-use Rattle.laws.specs.Counting.{Above, Increasing}
+use Rattle.laws.specs.Counting.{Above}
 
 -- the numbers of some grounds
 abbrev pub numbers : List Ground → List ℕ
 numbers gs = map (λ (g : Ground). g .number) gs
-
-above-number : (n : ℕ) (gs : List Ground) → Above n (numbers gs) → {g : Ground} → List·Memᴰ g gs → n < g .number
-above-number n [] up m = absurd (List·Memᴰ·not-nil m)
-above-number n (h ∷ gs) up {g} m = ⊎-elim (λ e. rw e (up .0)) (λ k. above-number n gs (up .1) k) (List·Memᴰ·cases-cons m)
 
 -- a number that is given belongs to a ground that is met
 pub refusal-met : (gs : List Ground) → 0 < refusal gs → (g : Ground) × List·Memᴰ g gs × (g .met ≡ true) × (g .number ≡ refusal gs)
@@ -33,14 +29,26 @@ refusal-met (g ∷ gs) h = go (g .met) refl h (λ k. refusal-met gs k)
     go true e k rec = (g, List·Memᴰ·head refl, e, refl)
     go false e k rec = let r = rec k in (r .0, List·Memᴰ·tail (r .1), r .2, r .3)
 
--- where the numbers increase, the first ground that is met is the lowest
-pub refusal-lowest : (gs : List Ground) → Increasing (numbers gs) → {g : Ground} → List·Memᴰ g gs → g .met ≡ true → refusal gs ≤ g .number
+-- whether each of some numbers is at most all that follow it
+abbrev pub rising : List ℕ → Bool
+rising [] = true
+rising (n ∷ l) = all (leb n) l && rising l
+
+most-number : (n : ℕ) (gs : List Ground) → all (leb n) (numbers gs) ≡ true → {g : Ground} → List·Memᴰ g gs → n ≤ g .number
+most-number n [] up m = absurd (List·Memᴰ·not-nil m)
+most-number n (h ∷ gs) up {g} m =
+    ⊎-elim (λ e. rw e (leb-true n (h .number) (and-l (leb n (h .number)) (all (leb n) (numbers gs)) up)))
+    (λ k. most-number n gs (and-r (leb n (h .number)) (all (leb n) (numbers gs)) up) k) (List·Memᴰ·cases-cons m)
+
+-- where no number is below one before it, the first ground that is met is the lowest
+pub refusal-lowest : (gs : List Ground) → rising (numbers gs) ≡ true → {g : Ground} → List·Memᴰ g gs → g .met ≡ true → refusal gs ≤ g .number
 refusal-lowest [] up m e = absurd (List·Memᴰ·not-nil m)
-refusal-lowest (h ∷ gs) up {g} m e = go (h .met) refl (List·Memᴰ·cases-cons m) (λ k. refusal-lowest gs (up .1) k e)
+refusal-lowest (h ∷ gs) up {g} m e =
+    go (h .met) refl (List·Memᴰ·cases-cons m) (λ k. refusal-lowest gs (and-r (all (leb (h .number)) (numbers gs)) (rising (numbers gs)) up) k e)
   where
     go : (t : Bool) → h .met ≡ t → (g ≡ h) ⊎ List·Memᴰ g gs → (List·Memᴰ g gs → refusal gs ≤ g .number) → cond t (h .number) (refusal gs) ≤ g .number
     go true q (inl k) rec = omega (arith, ap (λ (f : Ground). f .number) k)
-    go true q (inr k) rec = omega (arith, above-number (h .number) gs (up .0) k)
+    go true q (inr k) rec = most-number (h .number) gs (and-l (all (leb (h .number)) (numbers gs)) (rising (numbers gs)) up) k
     go false q (inl k) rec = absurd (contrary (g .met) e (ap (λ (f : Ground). f .met) k ∙ q))
     go false q (inr k) rec = rec k
 

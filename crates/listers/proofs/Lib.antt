@@ -1,4 +1,6 @@
 -- Laws that several proofs cite.
 --
 -- Rows          pages that are written one after the other into one room
+-- Determined    the contracts determine the outcomes
 pub mod Rows
+pub mod Determined

@@ -4,7 +4,9 @@
 -- Letters       a sequence that is read: its values, the m-mer that ends in a letter, the position for a window
 -- Windows       a window that was read, and the next one
 -- Scans         the answer of a scan, for any entries that stand for the positions
+-- Determined    the contracts determine the outcomes
 pub mod Blocks
 pub mod Letters
 pub mod Windows
 pub mod Scans
+pub mod Determined

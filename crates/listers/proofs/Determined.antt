@@ -1,0 +1,11 @@
+-- The contracts of `listers` determine their outcomes: any two that one allows are equal.
+-- Assumes nothing.
+use mathlib.Core.Path.{sym, ap, _∙_}
+use Rattle.definitions.specs.Contracts.{Determines}
+use Rattle.listers.specs.Answers.{Listed}
+use Rattle.listers.proofs.list.Kinds as list-kinds
+use Rattle.listers.proofs.list.Reads as list-reads
+
+pub list-determined : Determines list-kinds.ps list-kinds.r list-reads.Post
+list-determined κs args a b x y h g =
+    (ap (λ (o : Listed). record { refusal = o .refusal; written = o .written }) (h ∙ sym g), ap (λ (o : Listed). (tt, (tt, (tt, (tt, (tt, (o .room, tt))))))) (h ∙ sym g))

@@ -1,0 +1,34 @@
+-- The contracts of `powers` determine their outcomes: any two that one allows are equal.
+-- Assumes nothing.
+use mathlib.Core.Path.{refl, sym, _∙_}
+use Rattle.definitions.specs.Contracts.{Determines}
+use Rattle.powers.proofs.lesser.Kinds as lesser-kinds
+use Rattle.powers.proofs.lesser.Reads as lesser-reads
+use Rattle.powers.proofs.order_refusal.Kinds as order-refusal-kinds
+use Rattle.powers.proofs.order_refusal.Reads as order-refusal-reads
+use Rattle.powers.proofs.power.Kinds as power-kinds
+use Rattle.powers.proofs.power.Reads as power-reads
+use Rattle.powers.proofs.powers.Kinds as powers-kinds
+use Rattle.powers.proofs.powers.Reads as powers-reads
+use Rattle.powers.proofs.too_large.Kinds as too-large-kinds
+use Rattle.powers.proofs.too_large.Reads as too-large-reads
+use Rattle.powers.proofs.word_refusal.Kinds as word-refusal-kinds
+use Rattle.powers.proofs.word_refusal.Reads as word-refusal-reads
+
+pub powers-determined : Determines powers-kinds.ps powers-kinds.r powers-reads.Post
+powers-determined κs args a b x y h g = (h ∙ sym g, refl)
+
+pub power-determined : Determines power-kinds.ps power-kinds.r power-reads.Post
+power-determined κs args a b x y h g = (h ∙ sym g, refl)
+
+pub lesser-determined : Determines lesser-kinds.ps lesser-kinds.r lesser-reads.Post
+lesser-determined κs args a b x y h g = (h ∙ sym g, refl)
+
+pub too-large-determined : Determines too-large-kinds.ps too-large-kinds.r too-large-reads.Post
+too-large-determined κs args a b x y h g = (h ∙ sym g, refl)
+
+pub order-refusal-determined : Determines order-refusal-kinds.ps order-refusal-kinds.r order-refusal-reads.Post
+order-refusal-determined κs args a b x y h g = (h ∙ sym g, refl)
+
+pub word-refusal-determined : Determines word-refusal-kinds.ps word-refusal-kinds.r word-refusal-reads.Post
+word-refusal-determined κs args a b x y h g = (h ∙ sym g, refl)

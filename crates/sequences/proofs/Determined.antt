@@ -1,0 +1,10 @@
+-- The contracts of `sequences` determine their outcomes: any two that one allows are equal.
+-- Assumes nothing.
+use mathlib.Core.Path.{refl, sym, ap, _∙_}
+use Rattle.definitions.specs.Contracts.{Determines}
+use Rattle.sequences.specs.Answers.{Examined}
+use Rattle.sequences.proofs.examine.Kinds as examine-kinds
+use Rattle.sequences.proofs.examine.Reads as examine-reads
+
+pub examine-determined : Determines examine-kinds.ps examine-kinds.r examine-reads.Post
+examine-determined κs args a b x y h g = (ap (λ (o : Examined). record { refusal = o .refusal; place = o .place; windows = o .windows }) (h ∙ sym g), refl)

@@ -1,0 +1,11 @@
+-- The contracts of `shelves` determine their outcomes: any two that one allows are equal.
+-- Assumes nothing.
+use mathlib.Core.Path.{sym, ap, _∙_}
+use Rattle.definitions.specs.Contracts.{Determines}
+use Rattle.definitions.specs.Outcomes.{Paged}
+use Rattle.shelves.proofs.page.Kinds as page-kinds
+use Rattle.shelves.proofs.page.Reads as page-reads
+
+pub page-determined : Determines page-kinds.ps page-kinds.r page-reads.Post
+page-determined κs args a b x y h g =
+    (ap (λ (o : Paged). record { refusal = o .refusal; written = o .written }) (h ∙ sym g), ap (λ (o : Paged). (tt, (tt, (tt, (tt, (tt, (o .room, tt))))))) (h ∙ sym g))

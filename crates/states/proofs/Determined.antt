@@ -1,0 +1,10 @@
+-- The contracts of `states` determine their outcomes: any two that one allows are equal.
+-- Assumes nothing.
+use mathlib.Core.Path.{refl, sym, ap, _∙_}
+use Rattle.definitions.specs.Contracts.{Determines}
+use Rattle.states.specs.Answers.{Prepared}
+use Rattle.states.proofs.prepare.Kinds as prepare-kinds
+use Rattle.states.proofs.prepare.Reads as prepare-reads
+
+pub prepare-determined : Determines prepare-kinds.ps prepare-kinds.r prepare-reads.Post
+prepare-determined κs args a b x y h g = (ap (λ (o : Prepared). record { refusal = o .refusal; states = record { own = o .own; marks = o .marks; next = o .next; ban = o .ban } }) (h ∙ sym g), refl)
