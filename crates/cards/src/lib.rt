@@ -145,7 +145,7 @@ fn answer(input: &[u8], room: &mut [u8]) -> Told
     ensures { λ r. ⌜ Answers (now (input .entry)) r (now (room .entry)) (now (room .exit)) ⌝ }
 {
     let line = lines::read(input);
-    let size = worksheets::size(line.k, line.m, line.key, line.word);
+    let size = sizes::size(line.k, line.m, line.key, line.word);
     let refusal = first(line.refusal, size.refusal);
     if refusal != 0 {
         return refused(refusal, room);

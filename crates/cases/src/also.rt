@@ -12,7 +12,7 @@ fn sum() -> u64 {
     let mut sum: u64 = 0;
     let mut word = 0;
     while word < 16 {
-        let got = worksheets::size(3, 2, 0, word);
+        let got = sizes::size(3, 2, 0, word);
         sum = std::num::wrapping_add_u64(sum, got.count);
         word += 1;
     }

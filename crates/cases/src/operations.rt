@@ -103,7 +103,7 @@ pub fn vigemin(t: Tally, s: Setting, refusal: u64, word: u64, position: u64) -> 
 
 // The size: the refusal, the number of k-mers.
 pub fn size(t: Tally, s: Setting, refusal: u64, count: u64) -> Tally {
-    let got = worksheets::size(s.k, s.m, s.key, s.word);
+    let got = sizes::size(s.k, s.m, s.key, s.word);
     let holds = (got.refusal == refusal) & (got.count == count);
     one(t, b"size", b"", s, holds)
 }

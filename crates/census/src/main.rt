@@ -219,7 +219,7 @@ fn sizes_agree(s: Settings, tally: &Table) -> bool {
     let mut sum = 0;
     let mut word = 0;
     while word < words {
-        let size = worksheets::size(s.k, s.m, s.key, word);
+        let size = sizes::size(s.k, s.m, s.key, word);
         let counted = tally[word as usize];
         if !same(b"refusal of the size", s, word, size.refusal, 0) {
             return false;

@@ -32,7 +32,7 @@ pub struct Listed {
 pub fn list(k: u64, m: u64, key: u64, word: u64, each: u64, room: &mut [u64]) -> Listed
     ensures { λ r. ⌜ listed r (now (room .exit)) ≡ listOutcome k m key word each (now (room .entry)) ⌝ }
 {
-    let size = worksheets::size(k, m, key, word);
+    let size = sizes::size(k, m, key, word);
     if size.refusal != 0 {
         return Listed {
             refusal: size.refusal,

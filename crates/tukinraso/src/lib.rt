@@ -31,6 +31,6 @@ pub extern "C" fn tukinraso_scan(k: u64, m: u64, key: u64, seq: &[u8], room: &mu
 pub extern "C" fn tukinraso_size(k: u64, m: u64, key: u64, word: u64) -> u64
     ensures { λ r. ⌜ r ≡ outcomes.foreignSizeOutcome k m key word ⌝ }
 {
-    let counted = worksheets::size(k, m, key, word);
+    let counted = sizes::size(k, m, key, word);
     coded(counted.refusal, 0, counted.count)
 }

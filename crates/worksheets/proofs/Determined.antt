@@ -2,14 +2,9 @@
 -- Assumes nothing.
 use mathlib.Core.Path.{refl, sym, ap, _∙_}
 use Rattle.definitions.specs.Contracts.{Determines}
-use Rattle.definitions.specs.Outcomes.{Counted, Worked}
-use Rattle.worksheets.proofs.size.Kinds as size-kinds
-use Rattle.worksheets.proofs.size.Reads as size-reads
+use Rattle.definitions.specs.Outcomes.{Worked}
 use Rattle.worksheets.proofs.worksheet.Kinds as worksheet-kinds
 use Rattle.worksheets.proofs.worksheet.Reads as worksheet-reads
 
 pub worksheet-determined : Determines worksheet-kinds.ps worksheet-kinds.r worksheet-reads.Post
 worksheet-determined κs args a b x y h g = (ap (λ (o : Worked). record { refusal = o .refusal; sheet = record { antemers = o .antemers; postmers = o .postmers } }) (h ∙ sym g), refl)
-
-pub size-determined : Determines size-kinds.ps size-kinds.r size-reads.Post
-size-determined κs args a b x y h g = (ap (λ (o : Counted). record { refusal = o .refusal; count = o .count }) (h ∙ sym g), refl)

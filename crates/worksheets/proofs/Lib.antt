@@ -4,11 +4,9 @@
 -- Rows          a row of ways, and lists that are given up to a place
 -- Columns       a column that is counted row by row
 -- Sides         antemers and postmers as ways that a column counts
--- Sizes         the size from the columns of a worksheet
 -- Determined    the contracts determine the outcomes
 pub mod Laws
 pub mod Rows
 pub mod Columns
 pub mod Sides
-pub mod Sizes
 pub mod Determined

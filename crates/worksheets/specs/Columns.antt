@@ -206,7 +206,3 @@ PostmersAre ρ w k m list = ColumnIs k m (postmers (ranked ρ) w) list
 pub record SheetIs (ρ : Ranking) (w : Word) (k m : ℕ) (before after : List ℕ) : Type 0 where
   pub antemers-are : AntemersAre ρ w k m before
   pub postmers-are : PostmersAre ρ w k m after
-
--- the sum over the first so many rows a of the antemers in row n − a times the postmers in row a
-abbrev pub productSum : ℕ → List ℕ → List ℕ → ℕ → ℕ
-productSum n before after count = total (tabulate (λ a. getD before (n - a) 0 * getD after a 0) count)

@@ -1,4 +1,4 @@
-// Worksheets: the antemers and postmers behind the size of a shelf, counted by states, and the size. Assumes nothing.
+// Worksheets: the antemers and postmers behind the size of a shelf, counted by states. Assumes nothing.
 //
 // Antemers and postmers are counted alike: the ways to complete a state by r letters are the sum, over the letters that are not banned there, of
 // the ways to complete the next state by one letter less. Document 01's counts by shared prefix come back so: a word that begins with i letters of
@@ -7,12 +7,12 @@
 // stands nothing, so only an m-mer for which letters are left exists, and where none can exist any more the ways are a power of four.
 ghost use mathlib.Core.Path.{_≡_};
 ghost use Prim.Native.Nat.{suc, _-_, _^_, _≤_, _<_};
-ghost use Rattle.definitions.specs.Outcomes.{worksheetOutcome, sizeOutcome};
+ghost use Rattle.definitions.specs.Outcomes.{worksheetOutcome};
 ghost use Rattle.laws.specs.Rooms.{Written};
 ghost use Rattle.powers.specs.Powers.{PowersAre};
 ghost use Rattle.states.specs.Tables.{Known, All, AlphabetsOf};
-ghost use Rattle.worksheets.specs.Columns.{BansOf, MovesOf, NextsOf, StatesOf, entryOf, EntryReady, CaughtIs, EndIs, EndsAre, ReachIs, LastsIs, leadsTo, AllowedBy, wayOf, sumOf, WayReady, SumReady, RowReady, FreeReady, TurnReady, Turned, Countable, CountedBy, AntemersAre, PostmersAre, SheetIs, productSum};
-ghost use Rattle.worksheets.specs.Answers.{worked, counted};
+ghost use Rattle.worksheets.specs.Columns.{BansOf, MovesOf, NextsOf, StatesOf, entryOf, EntryReady, CaughtIs, EndIs, EndsAre, ReachIs, LastsIs, leadsTo, AllowedBy, wayOf, sumOf, WayReady, SumReady, RowReady, FreeReady, TurnReady, Turned, Countable, CountedBy, AntemersAre, PostmersAre, SheetIs};
+ghost use Rattle.worksheets.specs.Answers.{worked};
 
 // How a letter is marked in the special alphabets.
 const BELOW: u64 = 0;
@@ -341,41 +341,4 @@ pub fn worksheet(k: u64, m: u64, key: u64, word: u64) -> Worked
     }
     let sheet = sheet_of(k, m, prepared.states);
     Worked { refusal: 0, sheet }
-}
-
-// The sum over a of the antemers in row n - a times the postmers in row a.
-fn products(n: u64, sheet: Sheet) -> u64
-    requires { ⌜ (n ≤ 30) × (productSum n (sheet .antemers) (sheet .postmers) (suc n) ≤ 4 ^ 31) ⌝ }
-    ensures { λ r. ⌜ r ≡ productSum n (sheet .antemers) (sheet .postmers) (suc n) ⌝ }
-{
-    let mut sum: u64 = 0;
-    let mut a: u64 = 0;
-    while a <= n {
-        let before = n - a;
-        let product = sheet.antemers[before as usize] * sheet.postmers[a as usize];
-        sum += product;
-        a += 1;
-    }
-    sum
-}
-
-// What the size answers: the refusal, the number of k-mers.
-pub struct Counted {
-    pub refusal: u64,
-    pub count: u64,
-}
-
-// The size of a shelf. Refusals 1 to 4.
-pub fn size(k: u64, m: u64, key: u64, word: u64) -> Counted
-    ensures { λ r. ⌜ counted r ≡ sizeOutcome k m key word ⌝ }
-{
-    let worked = worksheet(k, m, key, word);
-    if worked.refusal != 0 {
-        return Counted {
-            refusal: worked.refusal,
-            count: 0,
-        };
-    }
-    let count = products(k - m, worked.sheet);
-    Counted { refusal: 0, count }
 }

@@ -5,7 +5,7 @@ use native.Mathlib.Omega.{arith}
 use borrow.Author.Needs.{needs}
 use Rattle.definitions.specs.Outcomes.{Counted, sizeOutcome, foreignSizeOutcome}
 use Rattle.laws.specs.Accepted.{size-refusal-most}
-use Rattle.worksheets.specs.Answers.{counted}
+use Rattle.sizes.specs.Answers.{counted}
 use Rattle.tukinraso.proofs.tukinraso_size.Statement.{statement}
 use Rattle.tukinraso.proofs.tukinraso_size.Tie as tie
 

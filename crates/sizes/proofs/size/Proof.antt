@@ -1,4 +1,4 @@
--- `worksheets::size` meets its contract: refused, it gives the answer under the number of refusal; else the sum of products over the worksheet is the size.
+-- `sizes::size` meets its contract: refused, it gives the answer under the number of refusal; else the sum of products over the worksheet is the size.
 -- Assumes nothing.
 use Prim.Native.Nat.{ℕ, zero, suc, _-_}
 use mathlib.Core.Path.{_≡_, refl, sym, ap, _∙_}
@@ -10,10 +10,10 @@ use Rattle.definitions.specs.Shelves.{size as shelfSize}
 use Rattle.definitions.specs.Refusals.{refusal}
 use Rattle.definitions.specs.Outcomes.{Worked, shelfGrounds, worksheetOutcome, sizeAnswer, sizeOutcome}
 use Rattle.laws.specs.Accepted.{ShelfAccepted, word-accepted, worksheetAnswer-refusal}
-use Rattle.worksheets.specs.Columns.{productSum}
-use Rattle.worksheets.proofs.Sizes.{size-small, worksheet-size}
-use Rattle.worksheets.proofs.size.Statement.{statement}
-use Rattle.worksheets.proofs.size.Tie as tie
+use Rattle.sizes.specs.Answers.{productSum}
+use Rattle.sizes.proofs.Sizes.{size-small, worksheet-size}
+use Rattle.sizes.proofs.size.Statement.{statement}
+use Rattle.sizes.proofs.size.Tie as tie
 
 -- beside a refusal stands zero
 refused : (r : ℕ) → (r ≡ 0 → ⊥) → (f : Form) (k : ℕ) (w : Word) → record { refusal = r; count = 0 } ≡ sizeAnswer r f k w

@@ -1,4 +1,4 @@
--- `worksheets::products` meets its contract. The loop's invariant: the sum is that over the first a rows. A part of it is at most the whole,
+-- `sizes::products` meets its contract. The loop's invariant: the sum is that over the first a rows. A part of it is at most the whole,
 -- which is at most 4^31. The measure is how many rows are left.
 -- Assumes nothing.
 use Prim.Native.Nat.{ℕ, zero, suc, _+_, _-_, _*_, _^_, _≤_}
@@ -13,9 +13,9 @@ use lib.Dec.{leb}
 use lib.ListN.{getD}
 use Rattle.definitions.specs.Lists.{tabulate, total}
 use Rattle.laws.specs.Split.{total-last}
-use Rattle.worksheets.specs.Columns.{productSum}
-use Rattle.worksheets.proofs.products.Statement.{statement}
-use Rattle.worksheets.proofs.products.Tie as tie
+use Rattle.sizes.specs.Answers.{productSum}
+use Rattle.sizes.proofs.products.Statement.{statement}
+use Rattle.sizes.proofs.products.Tie as tie
 
 -- a part of a sum is at most the whole
 part-le : (f : ℕ → ℕ) (k n : ℕ) → k ≤ n → total (tabulate f k) ≤ total (tabulate f n)

@@ -20,7 +20,7 @@ use Rattle.laws.specs.Numbers.{four-pos, digits-below, length-digits}
 use Rattle.laws.specs.Counting.{count-le}
 use Rattle.laws.specs.Split.{keyed-size-sum}
 use Rattle.laws.specs.Accepted.{ShelfAccepted, word-accepted}
-use Rattle.worksheets.specs.Columns.{productSum}
+use Rattle.sizes.specs.Answers.{productSum}
 
 -- a row of a column
 column-at : (k m : ℕ) (count : ℕ → ℕ) (a : ℕ) → m + a ≤ k → a < 31 → getD (column k m count) a 0 ≡ count a

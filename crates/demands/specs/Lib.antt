@@ -1,0 +1,4 @@
+-- x
+pub mod Contracts
+pub mod Meanings
+pub mod First
