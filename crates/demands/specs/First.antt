@@ -13,7 +13,7 @@ use contract.Lifetimes.{Lfts}
 use denote.Ref.{now}
 use lib.Dec.{ltb}
 use lib.ListN.{length, replicate}
-use Rattle.definitions.specs.Lists.{all, over}
+use Rattle.definitions.specs.Lists.{all}
 use Rattle.definitions.specs.Words.{Word, word as wordOf}
 use Rattle.definitions.specs.Vigemins.{Form, keyed, windows}
 use Rattle.definitions.specs.Shelves as shelves
@@ -34,7 +34,6 @@ use Rattle.sizes.specs.Answers as sizes
 use Rattle.counters.specs.Answers as counters
 use Rattle.shelves.specs.Answers.{paged}
 use Rattle.listers.specs.Answers as listers
-use Rattle.tukinraso.specs.Answers.{foreignScanned}
 use Rattle.lines.specs.Answers.{lined}
 use Rattle.cards.specs.Answers.{printed}
 use Rattle.demands.specs.Contracts.{Lent, Packs, Unpacks, Finds, Examines, Scans, ScansBytes, Prepares, Works, Sizes, Counts, Pages, Lists, ForeignScans, ForeignSizes, ReadsLine, Prints}

@@ -1,20 +1,19 @@
 -- The catalogue's notions once more, each said of all positions and not computed, so that a reader can hold the demands against document 01's
 -- sentences; and that they are those of `definitions`. A key and a word have m letters.
 -- Assumes nothing.
-use Prim.Native.Nat.{ℕ, suc, _+_, _-_, _≤_, _<_, min}
-use mathlib.Core.Bool.{Bool, true, false, not, _&&_}
-use mathlib.Core.List.{List, [], _∷_, _++_, map, List·Memᴰ}
+use Prim.Native.Nat.{ℕ, _+_, _≤_, _<_}
+use mathlib.Core.Bool.{Bool, true, not}
+use mathlib.Core.List.{List, [], _++_, map, List·Memᴰ}
 use mathlib.Core.Logic.{_↔_}
 use mathlib.Core.Path.{_≡_, refl, sym, ap, subst, _∙_}
 use native.Mathlib.Omega.{arith}
 use borrow.Author.Tests.{lt-ltb, le-ltb, ltb-true, ltb-false, not-true}
 use lib.ListN.{length, getD, take, drop, length-map, length-take, length-append, List·getD-map}
 use lib.Seq.{getD-take}
-use Rattle.definitions.specs.Lists.{filter, all}
-use Rattle.definitions.specs.Words.{Word, Mer, words, val, same, _⊕_}
+use Rattle.definitions.specs.Lists.{filter}
+use Rattle.definitions.specs.Words.{Word, Mer, words, val, _⊕_}
 use Rattle.definitions.specs.Vigemins.{keyed, value, below, above, windows, vigemin, vigeminAt}
-use Rattle.definitions.specs.Shelves.{antemer, postmer, begins}
-use Rattle.laws.specs.Tests.{and-l, and-r, same-eq, eq-same}
+use Rattle.definitions.specs.Shelves.{antemer, postmer}
 use Rattle.laws.specs.Filters.{all-at, at-all}
 use Rattle.laws.specs.Minima.{window-at, length-windows, vigemin-inside, vigemin-word, vigemin-least, vigemin-leftmost, vigemin-unique}
 use Rattle.laws.specs.Counting.{filter-words, filter-increasing, words-increasing, increasing-once}
@@ -76,8 +75,15 @@ module _ (key w x : Word) (fits : length w ≤ length x) where
       let f = keyed key in
       let m = length w in
       let at : vigeminAt f m x ≡ p =
-              vigemin-unique f m x p (v .inside) (λ q h. rw (v .stands) (v .least q h)) (λ q h. rw (v .stands) (v .leftmost q h)) in
+      vigemin-unique f m x p (v .inside) (λ q h. rw (v .stands) (v .least q h)) (λ q h. rw (v .stands) (v .leftmost q h)) in
       (vigemin-word f m x fits ∙ ap (merAt m x) at ∙ v .stands, at)
+
+-- a word has no two vigemins of one length
+pub vigemin-one : (key w u x : Word) → length w ≡ length u → Vigemin key w x → Vigemin key u x → w ≡ u
+vigemin-one key w u x e v s =
+    let inside : length w ≤ length x = omega (arith, v .1 .inside) in
+    let also : length u ≤ length x = omega (arith, s .1 .inside) in
+    sym (means-vigemin key w x inside (v .1) .0) ∙ ap (λ (n : ℕ). vigemin (keyed key) n x) e ∙ means-vigemin key u x also (s .1) .0
 
 module _ (key w : Word) where
   -- so for antemers
@@ -120,8 +126,8 @@ number-filter t n P tells =
       list = l;
       holds =
           λ x. (
-          λ h. let r = filter-words t n x .0 h in (r .0, tells x (r .0) .0 (r .1)),
-          λ h. filter-words t n x .1 (h .0, tells x (h .0) .1 (h .1))
+            λ h. let r = filter-words t n x .0 h in (r .0, tells x (r .0) .0 (r .1)),
+            λ h. filter-words t n x .1 (h .0, tells x (h .0) .1 (h .1)),
           );
       once =
           λ i j a b e. increasing-once (map val l) (filter-increasing val t (words n) (words-increasing n)) i j (rw (length-map l val) a) (rw (length-map l val) b)

@@ -23,7 +23,7 @@ use Rattle.laws.specs.Accepted.{ShelfAccepted, word-accepted}
 use Rattle.sizes.specs.Answers.{productSum}
 
 -- a row of a column
-column-at : (k m : ℕ) (count : ℕ → ℕ) (a : ℕ) → m + a ≤ k → a < 31 → getD (column k m count) a 0 ≡ count a
+pub column-at : (k m : ℕ) (count : ℕ → ℕ) (a : ℕ) → m + a ≤ k → a < 31 → getD (column k m count) a 0 ≡ count a
 column-at k m count a h f =
     tabulate-at (λ i. row (leb (m + i) k) count i) 31 a 0 f ∙ ap (λ (t : Bool). row t count a) (le-leb (m + a) k h)
 

@@ -7,7 +7,7 @@ use mathlib.Core.Logic.{_⊎_}
 use mathlib.Core.Path.{_≡_}
 use lib.Dec.{ltb, eqb}
 use lib.ListN.{length, getD, drop}
-use Rattle.definitions.specs.Lists.{tabulate, total}
+use Rattle.definitions.specs.Lists.{total}
 use Rattle.definitions.specs.Words.{Word, letters}
 use Rattle.definitions.specs.Shelves.{antemers, postmers, column}
 use Rattle.laws.specs.Orders.{Ranking, OneToOne, ranked}

@@ -6,7 +6,7 @@
 // antemer stands w, so every m-mer that begins in it exists, and state m has no way on: w would stand there too soon. After a postmer
 // stands nothing, so only an m-mer for which letters are left exists, and where none can exist any more the ways are a power of four.
 ghost use mathlib.Core.Path.{_≡_};
-ghost use Prim.Native.Nat.{suc, _-_, _^_, _≤_, _<_};
+ghost use Prim.Native.Nat.{suc, _-_, _≤_, _<_};
 ghost use Rattle.definitions.specs.Outcomes.{worksheetOutcome};
 ghost use Rattle.laws.specs.Rooms.{Written};
 ghost use Rattle.powers.specs.Powers.{PowersAre};

@@ -1,0 +1,145 @@
+-- Every contract determines the outcome: whatever the arguments, any two outcomes that it allows are equal, the answers and what the lent rooms
+-- hold at last (document 01, "Proof of each answer"). Here stands every public function of a library crate. Each theorem is proved in the crate of
+-- its function, in proofs/Determined.antt, so that a contract that tells less is refused there.
+-- Assumes nothing.
+use Rattle.definitions.specs.Contracts.{Determines}
+use Rattle.powers.proofs.powers.Kinds as powers-kinds
+use Rattle.powers.proofs.powers.Reads as powers-reads
+use Rattle.powers.proofs.power.Kinds as power-kinds
+use Rattle.powers.proofs.power.Reads as power-reads
+use Rattle.powers.proofs.lesser.Kinds as lesser-kinds
+use Rattle.powers.proofs.lesser.Reads as lesser-reads
+use Rattle.powers.proofs.too_large.Kinds as too-large-kinds
+use Rattle.powers.proofs.too_large.Reads as too-large-reads
+use Rattle.powers.proofs.order_refusal.Kinds as order-refusal-kinds
+use Rattle.powers.proofs.order_refusal.Reads as order-refusal-reads
+use Rattle.powers.proofs.word_refusal.Kinds as word-refusal-kinds
+use Rattle.powers.proofs.word_refusal.Reads as word-refusal-reads
+use Rattle.powers.proofs.Determined.{powers-determined, power-determined, lesser-determined, too-large-determined, order-refusal-determined, word-refusal-determined}
+use Rattle.words.proofs.is_letter.Kinds as is-letter-kinds
+use Rattle.words.proofs.is_letter.Reads as is-letter-reads
+use Rattle.words.proofs.letter.Kinds as letter-kinds
+use Rattle.words.proofs.letter.Reads as letter-reads
+use Rattle.words.proofs.first_bad.Kinds as first-bad-kinds
+use Rattle.words.proofs.first_bad.Reads as first-bad-reads
+use Rattle.words.proofs.pack.Kinds as pack-kinds
+use Rattle.words.proofs.pack.Reads as pack-reads
+use Rattle.words.proofs.unpack.Kinds as unpack-kinds
+use Rattle.words.proofs.unpack.Reads as unpack-reads
+use Rattle.words.proofs.Determined.{is-letter-determined, letter-determined, first-bad-determined, pack-determined, unpack-determined}
+use Rattle.vigemins.proofs.value.Kinds as value-kinds
+use Rattle.vigemins.proofs.value.Reads as value-reads
+use Rattle.vigemins.proofs.vigemin.Kinds as vigemin-kinds
+use Rattle.vigemins.proofs.vigemin.Reads as vigemin-reads
+use Rattle.vigemins.proofs.Determined.{value-determined, vigemin-determined}
+use Rattle.sequences.proofs.examine.Kinds as examine-kinds
+use Rattle.sequences.proofs.examine.Reads as examine-reads
+use Rattle.sequences.proofs.Determined.{examine-determined}
+use Rattle.scans.proofs.scan.Kinds as scan-kinds
+use Rattle.scans.proofs.scan.Reads as scan-reads
+use Rattle.scans.proofs.scan_bytes.Kinds as scan-bytes-kinds
+use Rattle.scans.proofs.scan_bytes.Reads as scan-bytes-reads
+use Rattle.scans.proofs.Determined.{scan-determined, scan-bytes-determined}
+use Rattle.states.proofs.prepare.Kinds as prepare-kinds
+use Rattle.states.proofs.prepare.Reads as prepare-reads
+use Rattle.states.proofs.Determined.{prepare-determined}
+use Rattle.worksheets.proofs.worksheet.Kinds as worksheet-kinds
+use Rattle.worksheets.proofs.worksheet.Reads as worksheet-reads
+use Rattle.worksheets.proofs.Determined.{worksheet-determined}
+use Rattle.sizes.proofs.size.Kinds as size-kinds
+use Rattle.sizes.proofs.size.Reads as size-reads
+use Rattle.sizes.proofs.Determined.{size-determined}
+use Rattle.counters.proofs.antemers.Kinds as antemers-kinds
+use Rattle.counters.proofs.antemers.Reads as antemers-reads
+use Rattle.counters.proofs.Determined.{antemers-determined}
+use Rattle.shelves.proofs.page.Kinds as page-kinds
+use Rattle.shelves.proofs.page.Reads as page-reads
+use Rattle.shelves.proofs.Determined.{page-determined}
+use Rattle.listers.proofs.list.Kinds as list-kinds
+use Rattle.listers.proofs.list.Reads as list-reads
+use Rattle.listers.proofs.Determined.{list-determined}
+use Rattle.tukinraso.proofs.tukinraso_scan.Kinds as tukinraso-scan-kinds
+use Rattle.tukinraso.proofs.tukinraso_scan.Reads as tukinraso-scan-reads
+use Rattle.tukinraso.proofs.tukinraso_size.Kinds as tukinraso-size-kinds
+use Rattle.tukinraso.proofs.tukinraso_size.Reads as tukinraso-size-reads
+use Rattle.tukinraso.proofs.Determined.{tukinraso-scan-determined, tukinraso-size-determined}
+use Rattle.lines.proofs.read.Kinds as read-kinds
+use Rattle.lines.proofs.read.Reads as read-reads
+use Rattle.lines.proofs.Determined.{read-determined}
+use Rattle.cards.proofs.card.Kinds as card-kinds
+use Rattle.cards.proofs.card.Reads as card-reads
+use Rattle.cards.proofs.Determined.{card-determined}
+
+-- the contracts of all public functions determine their outcomes
+pub record EveryContract : Type 0 where
+  -- powers
+  pub powers : Determines powers-kinds.ps powers-kinds.r powers-reads.Post
+  pub power : Determines power-kinds.ps power-kinds.r power-reads.Post
+  pub lesser : Determines lesser-kinds.ps lesser-kinds.r lesser-reads.Post
+  pub too-large : Determines too-large-kinds.ps too-large-kinds.r too-large-reads.Post
+  pub order-refusal : Determines order-refusal-kinds.ps order-refusal-kinds.r order-refusal-reads.Post
+  pub word-refusal : Determines word-refusal-kinds.ps word-refusal-kinds.r word-refusal-reads.Post
+  -- words
+  pub is-letter : Determines is-letter-kinds.ps is-letter-kinds.r is-letter-reads.Post
+  pub letter : Determines letter-kinds.ps letter-kinds.r letter-reads.Post
+  pub first-bad : Determines first-bad-kinds.ps first-bad-kinds.r first-bad-reads.Post
+  pub pack : Determines pack-kinds.ps pack-kinds.r pack-reads.Post
+  pub unpack : Determines unpack-kinds.ps unpack-kinds.r unpack-reads.Post
+  -- vigemins
+  pub value : Determines value-kinds.ps value-kinds.r value-reads.Post
+  pub vigemin : Determines vigemin-kinds.ps vigemin-kinds.r vigemin-reads.Post
+  -- sequences
+  pub examine : Determines examine-kinds.ps examine-kinds.r examine-reads.Post
+  -- scans
+  pub scan : Determines scan-kinds.ps scan-kinds.r scan-reads.Post
+  pub scan-bytes : Determines scan-bytes-kinds.ps scan-bytes-kinds.r scan-bytes-reads.Post
+  -- states
+  pub prepare : Determines prepare-kinds.ps prepare-kinds.r prepare-reads.Post
+  -- worksheets
+  pub worksheet : Determines worksheet-kinds.ps worksheet-kinds.r worksheet-reads.Post
+  -- sizes
+  pub size : Determines size-kinds.ps size-kinds.r size-reads.Post
+  -- counters
+  pub antemers : Determines antemers-kinds.ps antemers-kinds.r antemers-reads.Post
+  -- shelves
+  pub page : Determines page-kinds.ps page-kinds.r page-reads.Post
+  -- listers
+  pub list : Determines list-kinds.ps list-kinds.r list-reads.Post
+  -- tukinraso
+  pub tukinraso-scan : Determines tukinraso-scan-kinds.ps tukinraso-scan-kinds.r tukinraso-scan-reads.Post
+  pub tukinraso-size : Determines tukinraso-size-kinds.ps tukinraso-size-kinds.r tukinraso-size-reads.Post
+  -- lines
+  pub read : Determines read-kinds.ps read-kinds.r read-reads.Post
+  -- cards
+  pub card : Determines card-kinds.ps card-kinds.r card-reads.Post
+
+pub every-contract : EveryContract
+every-contract =
+    record {
+      powers = powers-determined;
+      power = power-determined;
+      lesser = lesser-determined;
+      too-large = too-large-determined;
+      order-refusal = order-refusal-determined;
+      word-refusal = word-refusal-determined;
+      is-letter = is-letter-determined;
+      letter = letter-determined;
+      first-bad = first-bad-determined;
+      pack = pack-determined;
+      unpack = unpack-determined;
+      value = value-determined;
+      vigemin = vigemin-determined;
+      examine = examine-determined;
+      scan = scan-determined;
+      scan-bytes = scan-bytes-determined;
+      prepare = prepare-determined;
+      worksheet = worksheet-determined;
+      size = size-determined;
+      antemers = antemers-determined;
+      page = page-determined;
+      list = list-determined;
+      tukinraso-scan = tukinraso-scan-determined;
+      tukinraso-size = tukinraso-size-determined;
+      read = read-determined;
+      card = card-determined;
+    }
