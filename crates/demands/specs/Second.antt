@@ -17,7 +17,7 @@ use Rattle.definitions.specs.Words.{Word, Mer, val, word as wordOf, letterOf, s
 use Rattle.definitions.specs.Vigemins.{keyed, windows, vigemin, vigeminAt, scan}
 use Rattle.definitions.specs.Shelves.{size, antemers, postmers, antemer, postmer, begins, row, column}
 use Rattle.definitions.specs.Refusals.{refusal}
-use Rattle.definitions.specs.Outcomes.{Found, Counted, Worked, Scanned, ForeignScanned, worksheetAnswer, worksheetOutcome, counterAnswer, counterOutcome, scanAnswer, scanOutcome, scanBytesOutcome, foreignScanOutcome, scanGrounds, coded, asBytes}
+use Rattle.definitions.specs.Outcomes.{Found, Counted, Worked, Scanned, ForeignScanned, sizeAnswer, sizeOutcome, worksheetAnswer, worksheetOutcome, counterAnswer, counterOutcome, scanAnswer, scanOutcome, scanBytesOutcome, foreignScanOutcome, scanGrounds, coded, asBytes}
 use Rattle.laws.specs.Tests.{and-l, and-r, and-i, same-eq, eq-same}
 use Rattle.laws.specs.Filters.{tabulate-at}
 use Rattle.laws.specs.Numbers.{four-pos, number-lt, digits-below, digits-number, length-digits}
@@ -127,6 +127,11 @@ module _ {k m key word : ℕ} (a : ShelfAccepted k m key word) where
       → s .count ≡ total (tabulate (λ i. getD (r .sheet .antemers) (k - m - i) 0 * getD (r .sheet .postmers) i 0) (suc (k - m)))
   size-worksheet r h s g =
       ap (λ (o : Counted). o .count) g ∙ size-count k m key word (accepted-word a) ∙ sym (worksheet-size k m key word h (accepted-word a))
+
+-- so of W3, key TAA and word AAA: whatever the size may answer is 4, where Lemma 8 as printed gives 1
+pub size-case : (r : _) → Sizes 4 3 48 0 r → (r .refusal ≡ 0) × (r .count ≡ 4)
+unfolding sizeOutcome sizeAnswer
+size-case r h = (ap (λ (o : Counted). o .refusal) h, ap (λ (o : Counted). o .count) h)
 
 -- whatever the plain counter may answer is the number of antemers of length k − m
 pub counter-right : {k m key word : ℕ} → CounterAccepted k m key word → (r : _) → Counts k m key word r
