@@ -6,7 +6,7 @@ use mathlib.Core.List.{[], _∷_}
 use mathlib.Core.Path.{_≡_, refl, sym, ap, ap₂, _∙_}
 use native.Mathlib.Nat.{not-suc-le-zero, mod-eq-of-lt}
 use native.Mathlib.Omega.{arith}
-use borrow.Author.Tests.{ltb-true, ltb-false, lt-ltb, le-ltb, lt-leb, eq-eqb, ne-eqb, eqb-true, eqb-false}
+use borrow.Author.Tests.{ltb-true, ltb-false, lt-ltb, le-ltb, lt-leb, eqb-true, eqb-false}
 use lib.Bits.{bitXor, xor-shr}
 use lib.Dec.{ltb, eqb}
 use lib.ListN.{length, getD, take, drop}
@@ -21,21 +21,10 @@ use Rattle.laws.specs.Prefixes.{goesOn-at}
 use Rattle.laws.specs.RulesHold.{sign-equal as equal-sign}
 use Rattle.laws.specs.Rules.{Sign, sign, isLess, isEqual, less, equal, greater, stretch, own, R, Σ}
 use Rattle.powers.specs.Powers.{powerOutcome, power-four}
-use Rattle.counters.specs.Settings.{signed, SetTo, LetterSign}
+use Rattle.powers.specs.Signs.{signed}
+use Rattle.counters.specs.Settings.{SetTo, LetterSign}
 
 -- ---- signs
-
--- one number is below another
-pub sign-below : {x y : ℕ} → x < y → 0 ≡ signed (sign x y)
-sign-below {x} {y} h = rw (lt-ltb x y h)
-
--- they are equal
-pub sign-equal : {x y : ℕ} → x ≡ y → 1 ≡ signed (sign x y)
-sign-equal {x} {y} e = rw (le-ltb x y (omega arith), eq-eqb x y e)
-
--- it is above
-pub sign-above : {x y : ℕ} → y < x → 2 ≡ signed (sign x y)
-sign-above {x} {y} h = rw (le-ltb x y (omega arith), ne-eqb x y (omega arith))
 
 -- a sign's number is 0 where it is below
 pub signed-less : {r : ℕ} (s : Sign) → r ≡ signed s → eqb r 0 ≡ isLess s

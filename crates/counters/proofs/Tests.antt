@@ -11,7 +11,8 @@ use Rattle.definitions.specs.Words.{Word}
 use Rattle.laws.specs.Orders.{Ranking}
 use Rattle.laws.specs.Places.{anyTo}
 use Rattle.laws.specs.Rules.{isLess, isEqual, own, R, Σ, restrained}
-use Rattle.counters.specs.Settings.{signed, LetterSign, lowAt}
+use Rattle.powers.specs.Signs.{signed}
+use Rattle.counters.specs.Settings.{LetterSign, lowAt}
 use Rattle.counters.proofs.Signs.{signed-less, signed-equal}
 
 -- whether R(i,j) is equal and a letter neither lies in Σ(i−j+2) nor is a(i−j+2)

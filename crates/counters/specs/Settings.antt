@@ -7,13 +7,7 @@ use lib.Dec.{eqb}
 use Rattle.definitions.specs.Words.{Word}
 use Rattle.laws.specs.Orders.{Ranking}
 use Rattle.laws.specs.Places.{anyTo}
-use Rattle.laws.specs.Rules.{Sign, less, equal, greater, isLess, own, R, Σ}
-
--- a sign as a number: 0 below, 1 equal, 2 above
-abbrev pub signed : Sign → ℕ
-signed less = 0
-signed equal = 1
-signed greater = 2
+use Rattle.laws.specs.Rules.{isLess, own, R, Σ}
 
 -- the numbers of a key and a word of m letters
 pub record SetTo (m key word : ℕ) : Type 0 where

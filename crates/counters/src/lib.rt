@@ -14,16 +14,17 @@ ghost use Rattle.definitions.specs.Shelves.{antemer};
 ghost use Rattle.definitions.specs.Outcomes.{counterOutcome};
 ghost use Rattle.laws.specs.Orders.{keyRanking};
 ghost use Rattle.laws.specs.Prefixes.{sharing, sharingFrom};
-ghost use Rattle.laws.specs.Rules.{sign as signOf, R, Σ, banned as bannedBy, restrained as mayFollow, T};
-ghost use Rattle.counters.specs.Settings.{signed, LetterSign, belowAt, SetTo, Served};
+ghost use Rattle.laws.specs.Rules.{R, Σ, banned as bannedBy, restrained as mayFollow, T};
+ghost use Rattle.powers.specs.Signs.{signed};
+ghost use Rattle.counters.specs.Settings.{LetterSign, belowAt, SetTo, Served};
 ghost use Rattle.counters.specs.Answers.{counted};
 
 // How one number stands against another.
-const BELOW: u64 = 0;
+const BELOW: u8 = 0;
 
-const EQUAL: u64 = 1;
+const EQUAL: u8 = 1;
 
-const ABOVE: u64 = 2;
+const ABOVE: u8 = 2;
 
 // What antemers are counted for: a key and a word of m letters.
 struct Setting {
@@ -32,22 +33,9 @@ struct Setting {
     word: u64,
 }
 
-// The sign of one number against another.
-fn sign(x: u64, y: u64) -> u64
-    ensures { λ r. ⌜ r ≡ signed (signOf x y) ⌝ }
-{
-    if x < y {
-        return BELOW;
-    }
-    if x == y {
-        return EQUAL;
-    }
-    ABOVE
-}
-
 // R(i,j): the sign of aj..ai against the word's first letters, as many, both combined with the key's first ones. With j = i + 1 there are no letters,
 // which are equal.
-fn compared(s: Setting, i: u64, j: u64) -> u64
+fn compared(s: Setting, i: u64, j: u64) -> u8
     requires { ⌜ SetTo (s .m) (s .key) (s .word) ⌝ }
     requires { ⌜ (0 < j) × (j ≤ i + 1) × (i ≤ s .m) ⌝ }
     ensures { λ r. ⌜ r ≡ signed (R (keyRanking (wordOf (s .m) (s .key))) (wordOf (s .m) (s .word)) i j) ⌝ }
@@ -57,11 +45,11 @@ fn compared(s: Setting, i: u64, j: u64) -> u64
     let rest = 2 * (s.m - length);
     let first = s.word >> rest;
     let key_first = s.key >> rest;
-    sign(stretch ^ key_first, first ^ key_first)
+    powers::sign(stretch ^ key_first, first ^ key_first)
 }
 
 // The sign of a letter against ai, both combined with ci: above where it lies in the special alphabet Σi, equal where it is ai.
-fn letter_sign(s: Setting, i: u64, letter: u64) -> u64
+fn letter_sign(s: Setting, i: u64, letter: u64) -> u8
     requires { ⌜ SetTo (s .m) (s .key) (s .word) ⌝ }
     requires { ⌜ (0 < i) × (i ≤ s .m) × (letter < 4) ⌝ }
     ensures { λ r. ⌜ LetterSign (keyRanking (wordOf (s .m) (s .key))) (wordOf (s .m) (s .word)) i letter r ⌝ }
@@ -69,7 +57,7 @@ fn letter_sign(s: Setting, i: u64, letter: u64) -> u64
     let shift = 2 * (s.m - i);
     let own = (s.word >> shift) % 4;
     let key_letter = (s.key >> shift) % 4;
-    sign(letter ^ key_letter, own ^ key_letter)
+    powers::sign(letter ^ key_letter, own ^ key_letter)
 }
 
 // How many letters Σ1 has: ranks go from 0 to 3, and so many lie above the rank of a1, which is its sum with c1.

@@ -15,7 +15,9 @@ use Rattle.powers.proofs.order_refusal.Kinds as order-refusal-kinds
 use Rattle.powers.proofs.order_refusal.Reads as order-refusal-reads
 use Rattle.powers.proofs.word_refusal.Kinds as word-refusal-kinds
 use Rattle.powers.proofs.word_refusal.Reads as word-refusal-reads
-use Rattle.powers.proofs.Determined.{powers-determined, power-determined, lesser-determined, too-large-determined, order-refusal-determined, word-refusal-determined}
+use Rattle.powers.proofs.sign.Kinds as sign-kinds
+use Rattle.powers.proofs.sign.Reads as sign-reads
+use Rattle.powers.proofs.Determined.{powers-determined, power-determined, lesser-determined, too-large-determined, order-refusal-determined, word-refusal-determined, sign-determined}
 use Rattle.words.proofs.is_letter.Kinds as is-letter-kinds
 use Rattle.words.proofs.is_letter.Reads as is-letter-reads
 use Rattle.words.proofs.letter.Kinds as letter-kinds
@@ -79,6 +81,7 @@ pub record EveryContract : Type 0 where
   pub too-large : Determines too-large-kinds.ps too-large-kinds.r too-large-reads.Post
   pub order-refusal : Determines order-refusal-kinds.ps order-refusal-kinds.r order-refusal-reads.Post
   pub word-refusal : Determines word-refusal-kinds.ps word-refusal-kinds.r word-refusal-reads.Post
+  pub sign : Determines sign-kinds.ps sign-kinds.r sign-reads.Post
   -- words
   pub is-letter : Determines is-letter-kinds.ps is-letter-kinds.r is-letter-reads.Post
   pub letter : Determines letter-kinds.ps letter-kinds.r letter-reads.Post
@@ -122,6 +125,7 @@ every-contract =
       too-large = too-large-determined;
       order-refusal = order-refusal-determined;
       word-refusal = word-refusal-determined;
+      sign = sign-determined;
       is-letter = is-letter-determined;
       letter = letter-determined;
       first-bad = first-bad-determined;

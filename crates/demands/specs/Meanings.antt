@@ -3,12 +3,12 @@
 -- Assumes nothing.
 use Prim.Native.Nat.{ℕ, _+_, _≤_, _<_}
 use mathlib.Core.Bool.{Bool, true, not}
-use mathlib.Core.List.{List, [], _++_, map, List·Memᴰ}
+use mathlib.Core.List.{List, [], _++_, List·Memᴰ}
 use mathlib.Core.Logic.{_↔_}
 use mathlib.Core.Path.{_≡_, refl, sym, ap, subst, _∙_}
 use native.Mathlib.Omega.{arith}
 use borrow.Author.Tests.{lt-ltb, le-ltb, ltb-true, ltb-false, not-true}
-use lib.ListN.{length, getD, take, drop, length-map, length-take, length-append, List·getD-map}
+use lib.ListN.{length, getD, take, drop, length-take, length-append}
 use lib.Seq.{getD-take}
 use Rattle.definitions.specs.Lists.{filter}
 use Rattle.definitions.specs.Words.{Word, Mer, words, val, _⊕_}
@@ -16,7 +16,7 @@ use Rattle.definitions.specs.Vigemins.{keyed, value, below, above, windows, vig
 use Rattle.definitions.specs.Shelves.{antemer, postmer}
 use Rattle.laws.specs.Filters.{all-at, at-all}
 use Rattle.laws.specs.Minima.{window-at, length-windows, vigemin-inside, vigemin-word, vigemin-least, vigemin-leftmost, vigemin-unique}
-use Rattle.laws.specs.Counting.{filter-words, filter-increasing, words-increasing, increasing-once}
+use Rattle.laws.specs.Counting.{filter-words, filter-once}
 
 -- ---- the notions
 
@@ -129,8 +129,6 @@ number-filter t n P tells =
             λ h. let r = filter-words t n x .0 h in (r .0, tells x (r .0) .0 (r .1)),
             λ h. filter-words t n x .1 (h .0, tells x (h .0) .1 (h .1)),
           );
-      once =
-          λ i j a b e. increasing-once (map val l) (filter-increasing val t (words n) (words-increasing n)) i j (rw (length-map l val) a) (rw (length-map l val) b)
-          (List·getD-map val l i [] ∙ ap val e ∙ sym (List·getD-map val l j []));
+      once = filter-once t n;
       long = refl;
     }

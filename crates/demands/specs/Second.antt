@@ -3,29 +3,27 @@
 -- `laws`; likewise for the other operations), and every sequence that is not refused.
 -- Assumes nothing.
 use Prim.Native.Nat.{ℕ, suc, _+_, _-_, _*_, _^_, _≤_, _<_}
-use mathlib.Core.Bool.{Bool, _&&_}
+use mathlib.Core.Bool.{_&&_}
 use mathlib.Core.List.{List}
 use mathlib.Core.Path.{_≡_, refl, sym, ap, subst, _∙_}
 use native.Mathlib.Omega.{arith}
-use borrow.Author.Tests.{lt-leb}
 use contract.Lifetimes.{Lfts}
 use denote.Ref.{now}
-use lib.Dec.{leb}
 use lib.ListN.{length, getD, length-map}
 use Rattle.definitions.specs.Lists.{tabulate, over, total}
 use Rattle.definitions.specs.Words.{Word, Mer, val, word as wordOf, letterOf, same, spelled}
 use Rattle.definitions.specs.Vigemins.{keyed, windows, vigemin, vigeminAt, scan}
-use Rattle.definitions.specs.Shelves.{size, antemers, postmers, antemer, postmer, begins, row, column}
+use Rattle.definitions.specs.Shelves.{size, antemers, postmers, antemer, postmer, begins, column}
 use Rattle.definitions.specs.Refusals.{refusal}
 use Rattle.definitions.specs.Outcomes.{Found, Counted, Worked, Scanned, ForeignScanned, sizeAnswer, sizeOutcome, worksheetAnswer, worksheetOutcome, counterAnswer, counterOutcome, scanAnswer, scanOutcome, scanBytesOutcome, foreignScanOutcome, scanGrounds, coded, asBytes}
 use Rattle.laws.specs.Tests.{and-l, and-r, and-i, same-eq, eq-same}
-use Rattle.laws.specs.Filters.{tabulate-at}
 use Rattle.laws.specs.Numbers.{four-pos, number-lt, digits-below, digits-number, length-digits}
 use Rattle.laws.specs.Minima.{length-windows, vigemin-mer}
 use Rattle.laws.specs.Scans.{length-scan, scan-inside, scan-least, scan-leftmost}
+use Rattle.laws.specs.Split.{column-at, column-above}
 use Rattle.laws.specs.Accepted.{ShelfAccepted, VigeminAccepted, CounterAccepted, ScanAccepted, accepted-word, accepted-counter, accepted-scan, size-refusal, size-count}
 use Rattle.laws.specs.RoundTrips.{vigemin-outcome, counter-row}
-use Rattle.sizes.proofs.Sizes.{column-at, worksheet-size}
+use Rattle.sizes.proofs.Sizes.{worksheet-size}
 use Rattle.demands.specs.Contracts.{Lent, Finds, Scans, ScansBytes, Works, Sizes, Counts, ForeignScans, ForeignSizes}
 use Rattle.demands.specs.Meanings.{merAt, keyedNumber, VigeminAt, Vigemin, Antemer, Postmer, Number, vigemin-means, means-vigemin, antemer-means, postmer-means, number-filter}
 use Rattle.demands.specs.First.{foreign-size-refuses}
@@ -51,10 +49,6 @@ pub record WorksheetIs (k m : ℕ) (key w : Word) (before after : List ℕ) : Ty
   pub above : (a : ℕ) → k < m + a → a < 31 → (getD before a 0 ≡ 0) × (getD after a 0 ≡ 0)
   pub rows : (length before ≡ 31) × (length after ≡ 31)
 
--- a row above the last holds 0
-column-above : (k m : ℕ) (count : ℕ → ℕ) (a : ℕ) → k < m + a → a < 31 → getD (column k m count) a 0 ≡ 0
-column-above k m count a h few = tabulate-at (λ i. row (leb (m + i) k) count i) 31 a 0 few ∙ ap (λ (t : Bool). row t count a) (lt-leb (m + a) k h)
-
 module _ (key w : Word) where
   -- the size that is defined is that number
   size-means : (k : ℕ) → length w ≤ k → SizeIs k key w (size (keyed key) k w)
@@ -78,7 +72,8 @@ module _ (key w : Word) where
       ))
 
 module _ {k m key word : ℕ} (a : ShelfAccepted k m key word) where
-  fits : length (wordOf m word) ≤ k
+  -- the word is no longer than a k-mer
+  pub fits : length (wordOf m word) ≤ k
   fits = rw (length-digits 4 m word) (a .order .mFits)
 
   -- whatever the size may answer is the number of k-mers with that vigemin
@@ -125,8 +120,7 @@ module _ {k m key word : ℕ} (a : ShelfAccepted k m key word) where
   -- the size is the sum over a of the antemers in row k − m − a times the postmers in row a
   pub size-worksheet : (r : _) → Works k m key word r → (s : _) → Sizes k m key word s
       → s .count ≡ total (tabulate (λ i. getD (r .sheet .antemers) (k - m - i) 0 * getD (r .sheet .postmers) i 0) (suc (k - m)))
-  size-worksheet r h s g =
-      ap (λ (o : Counted). o .count) g ∙ size-count k m key word (accepted-word a) ∙ sym (worksheet-size k m key word h (accepted-word a))
+  size-worksheet r h s g = size-defined s g ∙ sym (worksheet-size k m key word h (accepted-word a))
 
 -- so of W3, key TAA and word AAA: whatever the size may answer is 4, where Lemma 8 as printed gives 1
 pub size-case : (r : _) → Sizes 4 3 48 0 r → (r .refusal ≡ 0) × (r .count ≡ 4)

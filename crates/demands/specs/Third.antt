@@ -4,7 +4,7 @@
 -- word below 4^m.
 -- Assumes nothing.
 use Prim.Native.Nat.{ℕ, _+_, _^_, _≤_, _<_}
-use mathlib.Core.List.{List, [], _∷_, _++_, map, List·Memᴰ, List·Memᴰ·head, List·Memᴰ·tail}
+use mathlib.Core.List.{List, [], _∷_, _++_, map, List·Memᴰ, Memᴰ·map, Memᴰ·of-map}
 use mathlib.Core.Logic.{_↔_}
 use mathlib.Core.Path.{_≡_, refl, sym, ap, ap₂, subst, _∙_}
 use native.Mathlib.Omega.{arith}
@@ -16,17 +16,17 @@ use Rattle.definitions.specs.Lists.{over}
 use Rattle.definitions.specs.Words.{Word, Mer, val, word as wordOf}
 use Rattle.definitions.specs.Vigemins.{keyed, vigeminAt}
 use Rattle.definitions.specs.Shelves.{shelf, size}
-use Rattle.definitions.specs.Outcomes.{Counted, Paged, pageOutcome}
+use Rattle.definitions.specs.Outcomes.{Paged, pageOutcome}
 use Rattle.laws.specs.Counting.{Increasing}
 use Rattle.laws.specs.Numbers.{four-pos, digits-below, digits-number, length-digits, number-digits-lt}
 use Rattle.laws.specs.Catalogue.{shelf-holds, shelf-increasing}
-use Rattle.laws.specs.Accepted.{ShelfAccepted, accepted-word, size-count}
+use Rattle.laws.specs.Accepted.{ShelfAccepted}
 use Rattle.laws.specs.Listings.{Accepted, handed, handedOut, stoppedAt, RoomForOne, pages-served, pages-shelf, pages-reach, some-room}
 use Rattle.listers.specs.Answers.{Listed, listAnswer, listOutcome}
 use Rattle.demands.specs.Contracts.{Lent, Answer, Finds, Sizes, Pages, Lists}
 use Rattle.demands.specs.Meanings.{VigeminAt, Vigemin, vigemin-means, means-vigemin, vigemin-one}
 use Rattle.demands.specs.First.{list-refuses}
-use Rattle.demands.specs.Second.{vigemin-right}
+use Rattle.demands.specs.Second.{fits, size-defined, vigemin-right}
 use Rattle.shelves.proofs.page.Kinds as page-kinds
 
 -- ---- a shelf that is held by some numbers
@@ -37,24 +37,16 @@ pub record HoldsShelf (k : ℕ) (key w : Word) (numbers : List ℕ) : Type 0 whe
   pub noOther : (n : ℕ) → List·Memᴰ n numbers → (x : Word) × Mer k x × Vigemin key w x × (val x ≡ n)
   pub inOrder : Increasing numbers
 
-in-map : {A B : Type 0} (f : A → B) {a : A} (l : List A) → List·Memᴰ a l → List·Memᴰ (f a) (map f l)
-in-map f (b ∷ l) (List·Memᴰ·head e) = List·Memᴰ·head (ap f e)
-in-map f (b ∷ l) (List·Memᴰ·tail m) = List·Memᴰ·tail (in-map f l m)
-
-map-in : {A B : Type 0} (f : A → B) {b : B} (l : List A) → List·Memᴰ b (map f l) → (a : A) × List·Memᴰ a l × (f a ≡ b)
-map-in f (a ∷ l) (List·Memᴰ·head e) = (a, List·Memᴰ·head refl, sym e)
-map-in f (a ∷ l) (List·Memᴰ·tail m) = let r = map-in f l m in (r .0, List·Memᴰ·tail (r .1), r .2)
-
 -- the shelf that is defined is held by its numbers
 shelf-means : (k : ℕ) (key w : Word) → length w ≤ k → HoldsShelf k key w (map val (shelf (keyed key) k w))
 shelf-means k key w fits =
     let f = keyed key in
     record {
-      every = λ x h v. in-map val (shelf f k w) (shelf-holds f k w x .1 (h, means-vigemin key w x (rw (h .0) fits) (v .1) .0));
+      every = λ x h v. Memᴰ·map val (shelf-holds f k w x .1 (h, means-vigemin key w x (rw (h .0) (fits a)) (v .1) .0));
       noOther =
-          λ n m. let r = map-in val (shelf f k w) m in
+          λ n m. let r = Memᴰ·of-map val (shelf f k w) m in
           let s = shelf-holds f k w (r .0) .0 (r .1) in
-          (r .0, s .0, (vigeminAt f (length w) (r .0), vigemin-means key w (r .0) (rw (s .0 .0) fits) (s .1)), r .2);
+          (r .0, s .0, (vigeminAt f (length w) (r .0), vigemin-means key w (r .0) (rw (s .0 .0) (fits a)) (s .1)), r .2);
       inOrder = shelf-increasing f k w;
     }
 
@@ -116,12 +108,6 @@ module _ (κs : Lfts 1) (k m key word : ℕ) where
   )
 
 module _ {k m key word : ℕ} (a : ShelfAccepted k m key word) where
-  fits : length (wordOf m word) ≤ k
-  fits = rw (length-digits 4 m word) (a .order .mFits)
-
-  counted : (s : _) → Sizes k m key word s → s .count ≡ size (keyed (wordOf m key)) k (wordOf m word)
-  counted s g = ap (λ (o : Counted). o .count) g ∙ size-count k m key word (accepted-word a)
-
   module _ (κs : Lfts 1) (calls : List (Call κs)) (h : InRow κs k m key word 0 calls) (s : _) (g : Sizes k m key word s) where
     -- pages in a row are all served
     pub pages-accepted : Served κs k m key word calls
@@ -133,20 +119,20 @@ module _ {k m key word : ℕ} (a : ShelfAccepted k m key word) where
         let rs = rooms κs k m key word calls in
         let many : length rs ≡ length calls = length-map calls (λ (c : Call κs). now (c .room)) in
         stopped-at κs k m key word 0 calls h
-        ∙ pages-reach a rs (omega (arith, counted s g, many, some-room rs (room-for-one κs k m key word 0 calls h)))
-        ∙ sym (counted s g)
+        ∙ pages-reach a rs (omega (arith, size-defined a s g, many, some-room rs (room-for-one κs k m key word 0 calls h)))
+        ∙ sym (size-defined a s g)
 
     module _ (e : stopOf κs k m key word 0 calls ≡ s .count) where
       whole : pagesOf κs k m key word calls ≡ map val (shelf (keyed (wordOf m key)) k (wordOf m word))
       whole =
           handed-out κs k m key word 0 calls h
-          ∙ pages-shelf a (rooms κs k m key word calls) (sym (stopped-at κs k m key word 0 calls h) ∙ e ∙ counted s g)
+          ∙ pages-shelf a (rooms κs k m key word calls) (sym (stopped-at κs k m key word 0 calls h) ∙ e ∙ size-defined a s g)
 
       -- where they stop at the size, they hold the shelf, and as many numbers as the size says
       pub pages-right : HoldsShelf k (wordOf m key) (wordOf m word) (pagesOf κs k m key word calls) × (length (pagesOf κs k m key word calls) ≡ s .count)
       pages-right = (
-        rw whole (shelf-means k (wordOf m key) (wordOf m word) fits),
-        ap length whole ∙ length-map (shelf (keyed (wordOf m key)) k (wordOf m word)) val ∙ sym (counted s g),
+        rw whole (shelf-means k (wordOf m key) (wordOf m word) (fits a)),
+        ap length whole ∙ length-map (shelf (keyed (wordOf m key)) k (wordOf m word)) val ∙ sym (size-defined a s g),
       )
 
       -- and they hold a k-mer exactly if their word is what `vigemin` answers of it: over all words, every k-mer stands on exactly one shelf
@@ -185,4 +171,4 @@ module _ {k m key word : ℕ} (a : ShelfAccepted k m key word) where
       let held : last ≡ over (map val (shelf f k w)) (now room) = ap (λ (o : Listed). o .room) e in
       let front : take (r .written) last ≡ map val (shelf f k w) =
       ap₂ (λ (n : ℕ) (l : List ℕ). take n l) written held ∙ take-at (map val (shelf f k w)) _ (size f k w) (length-map (shelf f k w) val) in
-      (rw front (shelf-means k (wordOf m key) w fits), written ∙ sym (counted s g), rw front held)
+      (rw front (shelf-means k (wordOf m key) w (fits a)), written ∙ sym (size-defined a s g), rw front held)

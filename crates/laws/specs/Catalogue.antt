@@ -7,7 +7,7 @@ use mathlib.Core.Bool.{Bool, true, false}
 use mathlib.Core.List.{List, [], _∷_, _++_, map, List·Memᴰ, List·Memᴰ·head, List·Memᴰ·tail}
 use mathlib.Core.Logic.{_↔_}
 use mathlib.Core.Path.{_≡_, refl, sym, ap, _∙_}
-use lib.ListN.{length, getD, take, drop, length-take, length-drop, length-map, List·getD-map}
+use lib.ListN.{length, getD, take, drop, length-take, length-drop}
 use lib.Seq.{take-add, take-all, drop-drop}
 use Rattle.definitions.specs.Lists.{put, filter, total}
 use Rattle.definitions.specs.Words.{Word, Mer, words, same, val}
@@ -16,7 +16,7 @@ use Rattle.definitions.specs.Shelves.{shelf, size, page}
 use Rattle.laws.specs.Tests.{test-ext, same-eq, eq-same}
 use Rattle.laws.specs.Minima.{vigemin-mer}
 use Rattle.laws.specs.Counting.{total-mul, map-agree, words-mer, filter-words, count, count-cong, count-one, length-words}
-use Rattle.laws.specs.Counting.{Increasing, increasing-once, filter-increasing, words-increasing}
+use Rattle.laws.specs.Counting.{Increasing, filter-increasing, filter-once, words-increasing}
 
 -- ---- classes
 
@@ -58,10 +58,7 @@ module _ (f : Form) (k : ℕ) (w : Word) where
 
   -- no word stands twice on a shelf
   pub shelf-once : (i j : ℕ) → i < size f k w → j < size f k w → getD (shelf f k w) i [] ≡ getD (shelf f k w) j [] → i ≡ j
-  shelf-once i j a b e =
-      let l = shelf f k w in
-      increasing-once (map val l) shelf-increasing i j (rw (length-map l val) a) (rw (length-map l val) b)
-      (List·getD-map val l i [] ∙ ap val e ∙ sym (List·getD-map val l j []))
+  shelf-once = filter-once (λ x. same (vigemin f (length w) x) w) k
 
 module _ (f : Form) (k m : ℕ) (mk : m ≤ k) where
   inside : (x : Word) → Mer k x → Mer m (vigemin f m x)

@@ -10,7 +10,7 @@ use mathlib.Core.Logic.{⊎-elim, _↔_}
 use mathlib.Core.Path.{_≡_, refl, sym, ap, ap₂, _∙_, subst, fun-ext}
 use borrow.Author.Tests.{ltb-true, eqb-true}
 use lib.Dec.{ltb, eqb}
-use lib.ListN.{length, getD, take, drop}
+use lib.ListN.{length, getD, take, drop, length-map, List·getD-map}
 use Rattle.definitions.specs.Lists.{put, filter, tabulate, total}
 use Rattle.definitions.specs.Words.{Word, Letters, Mer, letters, spread, words, same, val}
 use Rattle.laws.specs.Numbers.{each-letter, letters-at}
@@ -244,3 +244,10 @@ words-numbers (suc n) = spread-numbers n (words-numbers n) 4 0 ∙ simp (zero-mu
 -- the words of n letters have increasing numbers
 pub words-increasing : (n : ℕ) → Increasing (map val (words n))
 words-increasing n = rw (words-numbers n) (tabulate-increasing (λ i. i) (4 ^ n) (λ i j l. l))
+
+-- no word stands twice among those of n letters that pass a test
+pub filter-once : (p : Word → Bool) (n i j : ℕ) → i < count p n → j < count p n → getD (filter p (words n)) i [] ≡ getD (filter p (words n)) j [] → i ≡ j
+filter-once p n i j a b e =
+    let l = filter p (words n) in
+    increasing-once (map val l) (filter-increasing val p (words n) (words-increasing n)) i j (rw (length-map l val) a) (rw (length-map l val) b)
+    (List·getD-map val l i [] ∙ ap val e ∙ sym (List·getD-map val l j []))

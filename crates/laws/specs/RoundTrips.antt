@@ -2,23 +2,21 @@
 -- plain counter and the worksheet.
 -- Assumes nothing.
 use Prim.Native.Nat.{ℕ, suc, _+_, _-_, _^_, _≤_, _<_}
-use mathlib.Core.Bool.{Bool, true}
+use mathlib.Core.Bool.{true}
 use mathlib.Core.List.{List}
 use mathlib.Core.Path.{_≡_, refl, sym, ap, _∙_}
 use native.Mathlib.Omega.{arith}
-use borrow.Author.Tests.{le-leb}
-use lib.Dec.{leb}
 use lib.ListN.{length, getD, take, drop, length-map, List·getD-append}
 use lib.Seq.{take-at}
 use Rattle.definitions.specs.Lists.{all, over}
 use Rattle.definitions.specs.Words.{Letters, val, word, letterOf, isLetter, spelled, text}
 use Rattle.definitions.specs.Vigemins.{Form, keyed, windows, vigeminAt, vigemin, scan}
-use Rattle.definitions.specs.Shelves.{antemers, row}
+use Rattle.definitions.specs.Shelves.{antemers}
 use Rattle.definitions.specs.Refusals.{refusal}
 use Rattle.definitions.specs.Outcomes.{Packed, packAnswer, packOutcome, unpackGrounds, unpackAnswer, unpackOutcome, vigeminAnswer, vigeminOutcome, worksheetAnswer, worksheetOutcome, counterGrounds, counterAnswer, counterOutcome, scanGrounds, scanAnswer, scanOutcome}
-use Rattle.laws.specs.Filters.{tabulate-at}
 use Rattle.laws.specs.Numbers.{four-pos, digits-below, number-digits-lt, digits-number, spelled-text, text-spelled, spelled-letters, text-letters, length-text, spelled-small}
 use Rattle.laws.specs.Minima.{length-stretch, all-stretch, map-stretch, length-windows}
+use Rattle.laws.specs.Split.{column-at}
 use Rattle.laws.specs.Scans.{length-scan, scan-at, scan-inside, scan-word}
 use Rattle.laws.specs.Accepted.{PackAccepted, pack-accepted, accepted-pack, UnpackAccepted, unpack-accepted, accepted-unpack, VigeminAccepted, accepted-word, counter-accepted, accepted-counter, counterAnswer-refusal, ScanAccepted, scan-accepted, accepted-scan, pack-refusal, unpackAnswer-refusal, scanAnswer-refusal}
 
@@ -178,5 +176,4 @@ counter-row k m key w z =
     let order = a .shelf .order in
     let count = antemers (keyed (word m key)) (word m w) in
     rw (accepted-counter a, accepted-word (a .shelf))
-    (sym (tabulate-at (λ i. row (leb (m + i) k) count i) 31 (k - m) 0 (omega (arith, order .kFew, order .mSome, order .mFits))
-    ∙ ap (λ (t : Bool). row t count (k - m)) (le-leb (m + (k - m)) k (omega (arith, order .mFits)))))
+    (sym (column-at k m count (k - m) (omega (arith, order .mFits)) (omega (arith, order .kFew, order .mSome, order .mFits))))

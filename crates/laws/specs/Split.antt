@@ -6,18 +6,29 @@ use mathlib.Core.List.{List, [], _∷_, _++_, List·Memᴰ, List·Memᴰ·head, 
 use mathlib.Core.Path.{_≡_, refl, sym, ap, ap₂, _∙_}
 use native.Mathlib.Nat.{add-comm, add-assoc}
 use native.Mathlib.Omega.{arith}
-use borrow.Author.Tests.{le-ltb, ne-eqb}
+use borrow.Author.Tests.{le-ltb, le-leb, lt-leb, ne-eqb}
+use lib.Dec.{leb}
 use lib.ListN.{length, getD, take, drop, drop-of-length-le}
 use lib.Seq.{length-take-le, take-take, take-add}
 use Rattle.definitions.specs.Lists.{all, tabulate, total}
 use Rattle.definitions.specs.Words.{Word, Letters, Mer, same}
 use Rattle.definitions.specs.Vigemins.{Form, keyed, value, below, above, windows, vigemin}
-use Rattle.definitions.specs.Shelves.{size, antemer, postmer, begins, antemers, postmers}
+use Rattle.definitions.specs.Shelves.{size, antemer, postmer, begins, antemers, postmers, row, column}
 use Rattle.laws.specs.Tests.{and-l, and-cong, contrary, same-eq, eq-same}
-use Rattle.laws.specs.Filters.{any}
+use Rattle.laws.specs.Filters.{any, tabulate-at}
 use Rattle.laws.specs.Orders.{Ranking, OneToOne, ranked, keyed-law, value-one, above-neither}
 use Rattle.laws.specs.Minima.{length-windows, window-at, windows-drop, windows-take, windows-mer, vigemin-is}
 use Rattle.laws.specs.Counting.{count, count-cong, count-none, count-either, count-product}
+
+-- ---- the rows
+
+-- a row of a column
+pub column-at : (k m : ℕ) (count : ℕ → ℕ) (a : ℕ) → m + a ≤ k → a < 31 → getD (column k m count) a 0 ≡ count a
+column-at k m count a h few = tabulate-at (λ i. row (leb (m + i) k) count i) 31 a 0 few ∙ ap (λ (t : Bool). row t count a) (le-leb (m + a) k h)
+
+-- a row above the last holds 0
+pub column-above : (k m : ℕ) (count : ℕ → ℕ) (a : ℕ) → k < m + a → a < 31 → getD (column k m count) a 0 ≡ 0
+column-above k m count a h few = tabulate-at (λ i. row (leb (m + i) k) count i) 31 a 0 few ∙ ap (λ (t : Bool). row t count a) (lt-leb (m + a) k h)
 
 -- ---- the sum
 

@@ -10,6 +10,8 @@ use Rattle.powers.proofs.power.Kinds as power-kinds
 use Rattle.powers.proofs.power.Reads as power-reads
 use Rattle.powers.proofs.powers.Kinds as powers-kinds
 use Rattle.powers.proofs.powers.Reads as powers-reads
+use Rattle.powers.proofs.sign.Kinds as sign-kinds
+use Rattle.powers.proofs.sign.Reads as sign-reads
 use Rattle.powers.proofs.too_large.Kinds as too-large-kinds
 use Rattle.powers.proofs.too_large.Reads as too-large-reads
 use Rattle.powers.proofs.word_refusal.Kinds as word-refusal-kinds
@@ -32,3 +34,6 @@ order-refusal-determined κs args a b x y h g = (h ∙ sym g, refl)
 
 pub word-refusal-determined : Determines word-refusal-kinds.ps word-refusal-kinds.r word-refusal-reads.Post
 word-refusal-determined κs args a b x y h g = (h ∙ sym g, refl)
+
+pub sign-determined : Determines sign-kinds.ps sign-kinds.r sign-reads.Post
+sign-determined κs args a b x y h g = (h ∙ sym g, refl)

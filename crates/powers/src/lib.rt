@@ -1,4 +1,5 @@
-// Powers: the powers of four, the range test, the refusals of k, m, key and word, and the lesser of two numbers. Assumes nothing.
+// Powers: the powers of four, the range test, the refusals of k, m, key and word, the lesser of two numbers and the sign of
+// one against another. Assumes nothing.
 ghost use mathlib.Core.Path.{_≡_};
 ghost use mathlib.Core.List.{[], _∷_, _++_};
 ghost use Prim.Native.Nat.{_^_, min};
@@ -6,7 +7,9 @@ ghost use lib.Dec.{leb};
 ghost use Rattle.definitions.specs.Lists.{tabulate};
 ghost use Rattle.definitions.specs.Refusals.{refusal, badKey, badWord};
 ghost use Rattle.definitions.specs.Outcomes.{orderGrounds};
+ghost use Rattle.laws.specs.Rules.{sign as signOf};
 ghost use Rattle.powers.specs.Powers.{powerOutcome};
+ghost use Rattle.powers.specs.Signs.{signed};
 
 // The powers of four from 0 to 31.
 const POWERS: [u64; 32] = [
@@ -67,6 +70,19 @@ pub fn lesser(a: u64, b: u64) -> u64
     ensures { λ r. ⌜ r ≡ min a b ⌝ }
 {
     if b < a { b } else { a }
+}
+
+// The sign of one number against another: 0 below, 1 equal, 2 above.
+pub fn sign(x: u64, y: u64) -> u8
+    ensures { λ r. ⌜ r ≡ signed (signOf x y) ⌝ }
+{
+    if x < y {
+        return 0;
+    }
+    if x == y {
+        return 1;
+    }
+    2
 }
 
 // Whether a word is too large for n letters.

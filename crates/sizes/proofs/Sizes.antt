@@ -1,31 +1,23 @@
 -- The size of a shelf from the columns of its worksheet.
 -- Assumes nothing.
-use Prim.Native.Nat.{ℕ, suc, _+_, _-_, _*_, _^_, _≤_, _<_}
-use mathlib.Core.Bool.{Bool}
+use Prim.Native.Nat.{ℕ, suc, _-_, _*_, _^_, _≤_}
 use mathlib.Core.List.{List}
 use mathlib.Core.Path.{_≡_, sym, ap, ap₂, _∙_}
 use native.Mathlib.Nat.{pow-le-pow-right}
 use native.Mathlib.Omega.{arith}
-use borrow.Author.Tests.{le-leb}
-use lib.Dec.{leb}
 use lib.ListN.{length, getD}
 use Rattle.definitions.specs.Lists.{tabulate, total}
 use Rattle.definitions.specs.Words.{word as wordOf, same}
 use Rattle.definitions.specs.Vigemins.{keyed, vigemin}
-use Rattle.definitions.specs.Shelves.{row, column, size, antemers, postmers}
+use Rattle.definitions.specs.Shelves.{column, size, antemers, postmers}
 use Rattle.definitions.specs.Refusals.{refusal}
 use Rattle.definitions.specs.Outcomes.{Worked, shelfGrounds, worksheetAnswer, worksheetOutcome}
-use Rattle.laws.specs.Filters.{tabulate-at, tabulate-agree}
+use Rattle.laws.specs.Filters.{tabulate-agree}
 use Rattle.laws.specs.Numbers.{four-pos, digits-below, length-digits}
 use Rattle.laws.specs.Counting.{count-le}
-use Rattle.laws.specs.Split.{keyed-size-sum}
+use Rattle.laws.specs.Split.{column-at, keyed-size-sum}
 use Rattle.laws.specs.Accepted.{ShelfAccepted, word-accepted}
 use Rattle.sizes.specs.Answers.{productSum}
-
--- a row of a column
-pub column-at : (k m : ℕ) (count : ℕ → ℕ) (a : ℕ) → m + a ≤ k → a < 31 → getD (column k m count) a 0 ≡ count a
-column-at k m count a h f =
-    tabulate-at (λ i. row (leb (m + i) k) count i) 31 a 0 f ∙ ap (λ (t : Bool). row t count a) (le-leb (m + a) k h)
 
 module _ {k m key w : ℕ} (a : ShelfAccepted k m key w) where
   -- no more k-mers stand on a shelf than there are

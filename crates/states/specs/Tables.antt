@@ -15,17 +15,19 @@ use Rattle.laws.specs.Filters.{tabulate-at}
 use Rattle.laws.specs.Orders.{Ranking, OneToOne}
 use Rattle.laws.specs.States.{next}
 use Rattle.laws.specs.Bans.{never, ban, lowBy}
+use Rattle.laws.specs.Rules.{sign, less, equal, greater}
+use Rattle.powers.specs.Signs.{signed}
 use Rattle.states.specs.Grids.{grid, grid-at}
 
--- how a rank stands beside that of w's own letter: 0 below, 1 equal, 2 above
+-- how a rank stands beside that of w's own letter: the number of its sign
 abbrev pub markOf : ℕ → ℕ → ℕ
-markOf rank own = cond (ltb rank own) 0 (cond (eqb rank own) 1 2)
+markOf rank own = signed (sign rank own)
 
 -- a mark is 1 exactly where the ranks are equal
 pub mark-equal : (r o : ℕ) → eqb (markOf r o) 1 ≡ eqb r o
 mark-equal r o = go (ltb r o) (eqb r o) refl refl
   where
-    go : (s t : Bool) → ltb r o ≡ s → eqb r o ≡ t → eqb (cond s 0 (cond t 1 2)) 1 ≡ t
+    go : (s t : Bool) → ltb r o ≡ s → eqb r o ≡ t → eqb (signed (cond s less (cond t equal greater))) 1 ≡ t
     go true t p q = sym (ne-eqb r o (λ e. omega (arith, ltb-true r o p))) ∙ q
     go false true p q = refl
     go false false p q = refl
@@ -34,7 +36,7 @@ mark-equal r o = go (ltb r o) (eqb r o) refl refl
 pub mark-below : (r o : ℕ) → eqb (markOf r o) 0 ≡ ltb r o
 mark-below r o = go (ltb r o) (eqb r o)
   where
-    go : (s t : Bool) → eqb (cond s 0 (cond t 1 2)) 0 ≡ s
+    go : (s t : Bool) → eqb (signed (cond s less (cond t equal greater))) 0 ≡ s
     go true t = refl
     go false true = refl
     go false false = refl

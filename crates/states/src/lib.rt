@@ -17,7 +17,7 @@ ghost use lib.ListN.{length};
 ghost use lib.Seq.{sets};
 ghost use Rattle.definitions.specs.Words.{word as wordOf};
 ghost use Rattle.laws.specs.Orders.{keyRanking};
-ghost use Rattle.states.specs.Tables.{rowOf, markOf, entryBy, linkedRow, Linking, Known, All, AlphabetsOf, LinksOf};
+ghost use Rattle.states.specs.Tables.{rowOf, entryBy, linkedRow, Linking, Known, All, AlphabetsOf, LinksOf};
 ghost use Rattle.states.specs.Answers.{fourOf, prepareOutcome, prepared};
 
 // How a letter ranks beside w's own letter.
@@ -64,19 +64,6 @@ fn put(row: Four, state: u64, table: &mut [u8; 128])
     table[at + 3] = row.t;
 }
 
-// How a rank stands beside that of w's own letter.
-fn mark(rank: u64, own: u64) -> u8
-    ensures { λ r. ⌜ r ≡ markOf rank own ⌝ }
-{
-    if rank < own {
-        return BELOW;
-    }
-    if rank == own {
-        return EQUAL;
-    }
-    ABOVE
-}
-
 // The special alphabets of a word: w's own letter at each place, and how each letter ranks beside it.
 struct Alphabets {
     own: [u8; 32],
@@ -98,10 +85,10 @@ fn special_alphabets(m: u64, key: u64, word: u64) -> Alphabets
         let rank = letter ^ key_letter;
         own[p as usize] = letter as u8;
         let marked = Four {
-            a: mark(0 ^ key_letter, rank),
-            c: mark(1 ^ key_letter, rank),
-            g: mark(2 ^ key_letter, rank),
-            t: mark(3 ^ key_letter, rank),
+            a: powers::sign(0 ^ key_letter, rank),
+            c: powers::sign(1 ^ key_letter, rank),
+            g: powers::sign(2 ^ key_letter, rank),
+            t: powers::sign(3 ^ key_letter, rank),
         };
         put(marked, p, &mut marks);
         p += 1;

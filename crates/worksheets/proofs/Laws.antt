@@ -1,22 +1,23 @@
 -- What stands at a place of the tables of the states of a word, sums over the letters, and numbers that fit.
 -- Assumes nothing.
 use Prim.Native.Nat.{ℕ, _+_, _-_, _*_, _≤_, _<_}
-use mathlib.Core.Bool.{Bool, true, false, cond}
+use mathlib.Core.Bool.{Bool, cond}
 use mathlib.Core.List.{List, map}
 use mathlib.Core.Path.{_≡_, ap, _∙_}
 use native.Mathlib.Omega.{arith}
 use mir.Syntax.{w64}
 use mir.Val.{Fits}
 use borrow.Author.Tests.{lt-ltb, le-ltb}
-use lib.Dec.{ltb, eqb}
 use lib.ListN.{length, getD}
 use Rattle.definitions.specs.Lists.{total}
 use Rattle.definitions.specs.Words.{Word, letters}
 use Rattle.laws.specs.Numbers.{letter-lt, row-agree}
 use Rattle.laws.specs.Orders.{Ranking}
+use Rattle.laws.specs.Rules.{sign}
 use Rattle.laws.specs.States.{next, next-le}
 use Rattle.laws.specs.Bans.{never, ban, lowBy, ban-own, ban-le}
 use Rattle.states.specs.Grids.{grid-at}
+use Rattle.powers.specs.Signs.{signed-most}
 use Rattle.states.specs.Tables.{markOf, markAt, LettersOf, own-at, own-lt, next-entry, ban-entry, AlphabetsOf}
 use Rattle.worksheets.specs.Columns.{BansOf, MovesOf, NextsOf, StatesOf, entryOf, EntryReady}
 
@@ -91,12 +92,7 @@ module _ {ρ : Ranking} {w : Word} {m : ℕ} {own marks : List ℕ} (a : Alphabe
   pub mark-ready : EntryReady (i + j) j own marks
   mark-ready =
       entry-ready (a .word) (i + j) j (omega (arith, a .word .few)) (omega (arith, a .word .few)) mark-entry
-      (go (ltb (ρ (i + j) (getD w j 0)) (ρ (i + j) (getD w (i + j) 0))) (eqb (ρ (i + j) (getD w j 0)) (ρ (i + j) (getD w (i + j) 0))))
-    where
-      go : (s t : Bool) → cond s 0 (cond t 1 2) < 256
-      go true t = omega arith
-      go false true = omega arith
-      go false false = omega arith
+      (omega (arith, signed-most (sign (ρ (i + j) (getD w j 0)) (ρ (i + j) (getD w (i + j) 0)))))
 
 module _ {ρ : Ranking} {w : Word} {m : ℕ} {own marks nexts : List ℕ} (s : NextsOf ρ w m own marks nexts) (i p : ℕ) (h : i ≤ m) (k : p < m) where
   -- where w's own letter leads

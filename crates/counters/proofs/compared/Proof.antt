@@ -6,7 +6,7 @@ use native.Mathlib.Nat.{one-le-pow}
 use native.Mathlib.Omega.{arith}
 use Rattle.laws.specs.Numbers.{four-pos}
 use Rattle.powers.specs.Powers.{power-four}
-use Rattle.counters.specs.Settings.{signed}
+use Rattle.powers.specs.Signs.{signed}
 use Rattle.counters.proofs.Signs.{compared-sign}
 use Rattle.counters.proofs.compared.Statement.{statement}
 use Rattle.counters.proofs.compared.Tie as tie

@@ -87,17 +87,17 @@ cast-own c = omega arith
 array-write-own : tie.Need-array-write-own Inv-loop μ-loop
 array-write-own c = omega (arith, c .before .before .pre .1)
 
-mark-requires : tie.Need-mark-requires Inv-loop μ-loop
-mark-requires c κs = tt
+sign-requires : tie.Need-sign-requires Inv-loop μ-loop
+sign-requires c κs = tt
 
-mark-requires-2 : tie.Need-mark-requires-2 Inv-loop μ-loop
-mark-requires-2 c κs = tt
+sign-requires-2 : tie.Need-sign-requires-2 Inv-loop μ-loop
+sign-requires-2 c κs = tt
 
-mark-requires-3 : tie.Need-mark-requires-3 Inv-loop μ-loop
-mark-requires-3 c κs = tt
+sign-requires-3 : tie.Need-sign-requires-3 Inv-loop μ-loop
+sign-requires-3 c κs = tt
 
-mark-requires-4 : tie.Need-mark-requires-4 Inv-loop μ-loop
-mark-requires-4 c κs = tt
+sign-requires-4 : tie.Need-sign-requires-4 Inv-loop μ-loop
+sign-requires-4 c κs = tt
 
 put-requires : tie.Need-put-requires Inv-loop μ-loop
 put-requires c κs =
@@ -119,7 +119,7 @@ loop-again c =
     let keyLetter = letter-cut m (start .args .key) (at .p) (m - 1 - at .p) (omega arith) in
     let last = c .before .before in
     let row = marks-at m (start .args .key) (start .args .word) (at .p) (omega arith) letter keyLetter
-    (last .before .before .before .mark .ensures) (last .before .before .mark2 .ensures) (last .before .mark3 .ensures) (last .mark4 .ensures) in
+    (last .before .before .before .sign .ensures) (last .before .before .sign2 .ensures) (last .before .sign3 .ensures) (last .sign4 .ensures) in
     (omega arith, rw add-one (marked-more (at .inv .1) (omega (arith, start .pre .1)) letter row (c .put .ensures)))
 
 returns : tie.Need-returns Inv-loop μ-loop
@@ -155,10 +155,10 @@ special-alphabets-spec =
     shr-key-letter
     cast-own
     array-write-own
-    mark-requires
-    mark-requires-2
-    mark-requires-3
-    mark-requires-4
+    sign-requires
+    sign-requires-2
+    sign-requires-3
+    sign-requires-4
     put-requires
     add-p
     loop-less

@@ -1,9 +1,9 @@
--- `counters::sign` meets its contract: each of its three returns is the number of the sign.
+-- `powers::sign` meets its contract: each of its three returns is the number of the sign.
 -- Assumes nothing.
 use native.Mathlib.Omega.{arith}
-use Rattle.counters.proofs.Signs.{sign-below, sign-equal, sign-above}
-use Rattle.counters.proofs.sign.Statement.{statement}
-use Rattle.counters.proofs.sign.Tie as tie
+use Rattle.powers.specs.Signs.{sign-below, sign-equal, sign-above}
+use Rattle.powers.proofs.sign.Statement.{statement}
+use Rattle.powers.proofs.sign.Tie as tie
 
 returns : tie.Need-returns
 returns c =
