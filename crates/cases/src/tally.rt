@@ -2,8 +2,8 @@
 use libc::STDOUT_FILENO;
 
 pub struct Tally {
-    pub held: u64,
-    pub run: u64,
+    held: u64,
+    run: u64,
 }
 
 // No case so far.
@@ -12,28 +12,28 @@ pub fn none() -> Tally {
 }
 
 // Writes some bytes.
-pub fn say(bytes: &[u8]) {
+fn say(bytes: &[u8]) {
     io::write_all(STDOUT_FILENO, bytes);
 }
 
 // Writes a label and a number.
-pub fn say_number(label: &[u8], number: u64) {
+fn say_number(label: &[u8], number: u64) {
     say(label);
     io::print_decimal(STDOUT_FILENO, number);
 }
 
 // One case more.
-pub fn count(t: Tally, holds: bool) -> Tally {
+fn count(t: Tally, holds: bool) -> Tally {
     let run = std::num::wrapping_add_u64(t.run, 1);
     let held = std::num::wrapping_add_u64(t.held, holds as u64);
     Tally { held, run }
 }
 
-// One case more, which has a name. One that does not hold is told.
-pub fn one(t: Tally, name: &[u8], holds: bool) -> Tally {
+// One case more. One that does not hold is told.
+pub fn one(t: Tally, case: &[u8], holds: bool) -> Tally {
     if !holds {
         say(b"differs: ");
-        say(name);
+        say(case);
         say(b"\n");
     }
     count(t, holds)

@@ -20,12 +20,6 @@ tukinraso-scan-requires c κs = search needs
 bytes-are-requires : tie.Need-bytes-are-requires
 bytes-are-requires c κs = search needs
 
-slice-aggregate-one : tie.Need-slice-aggregate-one
-slice-aggregate-one c = search needs
-
-one-requires : tie.Need-one-requires
-one-requires c κs = search needs
-
 returns : tie.Need-returns
 returns c = search needs
 
@@ -38,6 +32,4 @@ foreign-scan-spec =
     slice-aggregate-tukinraso-scan
     tukinraso-scan-requires
     bytes-are-requires
-    slice-aggregate-one
-    one-requires
     returns)

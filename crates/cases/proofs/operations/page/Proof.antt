@@ -17,17 +17,8 @@ slice-aggregate-page c = simp length-take (omega arith)
 page-requires : tie.Need-page-requires
 page-requires c κs = search needs
 
-slice-aggregate-one : tie.Need-slice-aggregate-one
-slice-aggregate-one c = search needs
-
-slice-aggregate-one-2 : tie.Need-slice-aggregate-one-2
-slice-aggregate-one-2 c = search needs
-
 kmers-are-requires : tie.Need-kmers-are-requires
 kmers-are-requires c κs = search needs
-
-one-requires : tie.Need-one-requires
-one-requires c κs = search needs
 
 returns : tie.Need-returns
 returns c = search needs
@@ -40,8 +31,5 @@ page-spec =
     array-borrow-prefix-lent
     slice-aggregate-page
     page-requires
-    slice-aggregate-one
-    slice-aggregate-one-2
     kmers-are-requires
-    one-requires
     returns)

@@ -17,17 +17,8 @@ slice-aggregate-unpack c = simp length-take (omega arith)
 unpack-requires : tie.Need-unpack-requires
 unpack-requires c κs = search needs
 
-slice-aggregate-one : tie.Need-slice-aggregate-one
-slice-aggregate-one c = search needs
-
-slice-aggregate-one-2 : tie.Need-slice-aggregate-one-2
-slice-aggregate-one-2 c = search needs
-
-bytes-are-requires : tie.Need-bytes-are-requires
-bytes-are-requires c κs = search needs
-
-one-requires : tie.Need-one-requires
-one-requires c κs = search needs
+text-is-requires : tie.Need-text-is-requires
+text-is-requires c κs = search needs
 
 returns : tie.Need-returns
 returns c = search needs
@@ -40,8 +31,5 @@ unpack-spec =
     array-borrow-prefix-lent
     slice-aggregate-unpack
     unpack-requires
-    slice-aggregate-one
-    slice-aggregate-one-2
-    bytes-are-requires
-    one-requires
+    text-is-requires
     returns)
