@@ -76,13 +76,16 @@ module _ {k m key word : ℕ} (a : ShelfAccepted k m key word) where
   pub fits : length (wordOf m word) ≤ k
   fits = rw (length-digits 4 m word) (a .order .mFits)
 
+  -- what the size may answer is the size that is defined
+  pub size-defined : (r : _) → Sizes k m key word r → r .count ≡ size (keyed (wordOf m key)) k (wordOf m word)
+  size-defined r h = ap (λ (o : Counted). o .count) h ∙ size-count k m key word (accepted-word a)
+
   -- whatever the size may answer is the number of k-mers with that vigemin
   pub size-right : (r : _) → Sizes k m key word r → (r .refusal ≡ 0) × SizeIs k (wordOf m key) (wordOf m word) (r .count)
-  size-right r h =
-      let count : r .count ≡ size (keyed (wordOf m key)) k (wordOf m word) = ap (λ (o : Counted). o .count) h ∙ size-count k m key word (accepted-word a) in (
-        ap (λ (o : Counted). o .refusal) h ∙ size-refusal k m key word ∙ accepted-word a,
-        subst (SizeIs k (wordOf m key) (wordOf m word)) (sym count) (size-means (wordOf m key) (wordOf m word) k fits),
-      )
+  size-right r h = (
+    ap (λ (o : Counted). o .refusal) h ∙ size-refusal k m key word ∙ accepted-word a,
+    subst (SizeIs k (wordOf m key) (wordOf m word)) (sym (size-defined r h)) (size-means (wordOf m key) (wordOf m word) k fits),
+  )
 
   -- and so the foreign size
   pub foreign-size-right : (r : _) → ForeignSizes k m key word r → SizeIs k (wordOf m key) (wordOf m word) r

@@ -42,11 +42,11 @@ shelf-means : (k : ℕ) (key w : Word) → length w ≤ k → HoldsShelf k key w
 shelf-means k key w fits =
     let f = keyed key in
     record {
-      every = λ x h v. Memᴰ·map val (shelf-holds f k w x .1 (h, means-vigemin key w x (rw (h .0) (fits a)) (v .1) .0));
+      every = λ x h v. Memᴰ·map val (shelf-holds f k w x .1 (h, means-vigemin key w x (rw (h .0) fits) (v .1) .0));
       noOther =
           λ n m. let r = Memᴰ·of-map val (shelf f k w) m in
           let s = shelf-holds f k w (r .0) .0 (r .1) in
-          (r .0, s .0, (vigeminAt f (length w) (r .0), vigemin-means key w (r .0) (rw (s .0 .0) (fits a)) (s .1)), r .2);
+          (r .0, s .0, (vigeminAt f (length w) (r .0), vigemin-means key w (r .0) (rw (s .0 .0) fits) (s .1)), r .2);
       inOrder = shelf-increasing f k w;
     }
 
