@@ -19,13 +19,6 @@ ghost use Rattle.powers.specs.Signs.{signed};
 ghost use Rattle.counters.specs.Settings.{LetterSign, belowAt, SetTo, Served};
 ghost use Rattle.counters.specs.Answers.{counted};
 
-// How one number stands against another.
-const BELOW: u8 = 0;
-
-const EQUAL: u8 = 1;
-
-const ABOVE: u8 = 2;
-
 // What antemers are counted for: a key and a word of m letters.
 struct Setting {
     m: u64,
@@ -77,7 +70,7 @@ fn below_at(s: Setting, i: u64) -> bool
 {
     let mut j: u64 = 2;
     while j <= i {
-        if compared(s, i, j) == BELOW {
+        if compared(s, i, j) == powers::BELOW {
             return true;
         }
         j += 1;
@@ -108,12 +101,14 @@ fn may_follow(s: Setting, i: u64, letter: u64) -> bool
     requires { ⌜ (i < s .m) × (letter < 4) ⌝ }
     ensures { λ r. ⌜ r ≡ mayFollow (keyRanking (wordOf (s .m) (s .key))) (wordOf (s .m) (s .word)) (λ j. true) i letter ⌝ }
 {
-    if letter_sign(s, i + 1, letter) != ABOVE {
+    if letter_sign(s, i + 1, letter) != powers::ABOVE {
         return false;
     }
     let mut j: u64 = 2;
     while j <= i + 1 {
-        if (compared(s, i, j) == EQUAL) & (letter_sign(s, i + 2 - j, letter) == BELOW) {
+        if (compared(s, i, j) == powers::EQUAL)
+            & (letter_sign(s, i + 2 - j, letter) == powers::BELOW)
+        {
             return false;
         }
         j += 1;
@@ -129,7 +124,9 @@ fn least_tied(s: Setting, i: u64, letter: u64) -> u64
 {
     let mut j: u64 = 2;
     while j <= i + 1 {
-        if (compared(s, i, j) == EQUAL) & (letter_sign(s, i + 2 - j, letter) == EQUAL) {
+        if (compared(s, i, j) == powers::EQUAL)
+            & (letter_sign(s, i + 2 - j, letter) == powers::EQUAL)
+        {
             return j;
         }
         j += 1;

@@ -72,17 +72,24 @@ pub fn lesser(a: u64, b: u64) -> u64
     if b < a { b } else { a }
 }
 
-// The sign of one number against another: 0 below, 1 equal, 2 above.
+// How one number stands against another.
+pub const BELOW: u8 = 0;
+
+pub const EQUAL: u8 = 1;
+
+pub const ABOVE: u8 = 2;
+
+// The sign of one number against another.
 pub fn sign(x: u64, y: u64) -> u8
     ensures { λ r. ⌜ r ≡ signed (signOf x y) ⌝ }
 {
     if x < y {
-        return 0;
+        return BELOW;
     }
     if x == y {
-        return 1;
+        return EQUAL;
     }
-    2
+    ABOVE
 }
 
 // Whether a word is too large for n letters.

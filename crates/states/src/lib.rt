@@ -20,13 +20,6 @@ ghost use Rattle.laws.specs.Orders.{keyRanking};
 ghost use Rattle.states.specs.Tables.{rowOf, entryBy, linkedRow, Linking, Known, All, AlphabetsOf, LinksOf};
 ghost use Rattle.states.specs.Answers.{fourOf, prepareOutcome, prepared};
 
-// How a letter ranks beside w's own letter.
-const BELOW: u8 = 0;
-
-const EQUAL: u8 = 1;
-
-const ABOVE: u8 = 2;
-
 // More letters than are ever left.
 const NEVER: u8 = 64;
 
@@ -76,7 +69,7 @@ fn special_alphabets(m: u64, key: u64, word: u64) -> Alphabets
     ensures { λ r. ⌜ AlphabetsOf (keyRanking (wordOf m key)) (wordOf m word) m (r .own) (r .marks) ⌝ }
 {
     let mut own: [u8; 32] = [0; 32];
-    let mut marks: [u8; 128] = [ABOVE; 128];
+    let mut marks: [u8; 128] = [powers::ABOVE; 128];
     let mut p: u64 = 0;
     while p < m {
         let shift = 2 * (m - 1 - p);
@@ -146,8 +139,8 @@ fn link_states(m: u64, alphabets: Alphabets) -> States
         let here = row(&marks, i);
         let letter = own[i as usize] as u64;
         let after = next[(4 * fall + letter) as usize] as u64;
-        link(EQUAL, i + 1, here, fall, i, &mut next);
-        link(BELOW, m - i, here, fall, i, &mut ban);
+        link(powers::EQUAL, i + 1, here, fall, i, &mut next);
+        link(powers::BELOW, m - i, here, fall, i, &mut ban);
         fall = after;
         i += 1;
     }

@@ -14,7 +14,7 @@ ghost use Rattle.states.specs.Tables.{Known, All, AlphabetsOf};
 ghost use Rattle.worksheets.specs.Columns.{BansOf, MovesOf, NextsOf, StatesOf, entryOf, EntryReady, CaughtIs, EndIs, EndsAre, ReachIs, LastsIs, leadsTo, AllowedBy, wayOf, sumOf, WayReady, SumReady, RowReady, FreeReady, TurnReady, Turned, Countable, CountedBy, AntemersAre, PostmersAre, SheetIs};
 ghost use Rattle.worksheets.specs.Answers.{worked};
 
-// How a letter is marked in the special alphabets.
+// How a letter is marked in the special alphabets: `powers::BELOW` and `powers::EQUAL`, in 64 bits as the tables are read.
 const BELOW: u64 = 0;
 
 const EQUAL: u64 = 1;
