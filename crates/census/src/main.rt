@@ -315,15 +315,16 @@ fn pages_of(s: Settings, word: u64, shelf: &[u64], room: &mut [u64]) -> u64 {
     }
 }
 
-// The n-th room: 1, 2, 7 and the whole.
+// The n-th room: one, two and seven 64th parts of a shelf and more, which is 1, 2 and 7 where it has fewer than 64 k-mers; and the whole.
 fn nth_room(n: u64, size: usize) -> usize
     requires { ⌜ size ≤ 65536 ⌝ }
     ensures { λ r. ⌜ r ≤ 65536 ⌝ }
 {
+    let part = size / 64 + 1;
     match n {
-        0 => 1,
-        1 => 2,
-        2 => 7,
+        0 => part,
+        1 => 2 * part,
+        2 => 7 * part,
         _ => size,
     }
 }
