@@ -2,17 +2,20 @@
 -- Assumes nothing.
 use Prim.Native.Nat.{ℕ, _^_}
 use mathlib.Core.List.{List}
-use mathlib.Core.Path.{ap, _∙_}
+use mathlib.Core.Path.{_≡_, sym, ap, _∙_}
 use native.Mathlib.Omega.{arith}
 use borrow.Author.Needs.{needs}
 use borrow.Author.Tests.{le-leb, lt-leb}
 use lib.ListN.{getD}
 use Rattle.laws.specs.Filters.{tabulate-at}
+use Rattle.powers.specs.Powers.{powerOutcome}
 use Rattle.powers.proofs.power.Statement.{statement}
 use Rattle.powers.proofs.power.Tie as tie
 
 returns : tie.Need-returns
-returns c = rw (lt-leb (c .before .args .n) 31 (c .if1 .taken))
+returns c =
+    let none : powerOutcome (c .before .args .n) ≡ 0 = rw (lt-leb (c .before .args .n) 31 (c .if1 .taken)) in
+    sym none
 
 powers-requires : tie.Need-powers-requires
 powers-requires c κs = search needs
