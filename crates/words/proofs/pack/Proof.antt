@@ -1,7 +1,8 @@
 -- `words::pack` meets its contract: each return gives the answer under the number of the first ground whose test held.
 -- Assumes nothing.
+use Prim.Native.Nat.{ℕ}
 use mathlib.Core.Bool.{true, false, not}
-use mathlib.Core.Path.{_≡_, sym, _∙_}
+use mathlib.Core.Path.{_≡_, sym, ap, _∙_}
 use borrow.Author.Needs.{needs}
 use borrow.Author.Tests.{lt-ltb, le-ltb}
 use lib.ListN.{length}
@@ -28,7 +29,7 @@ unfolding packOutcome packAnswer
 returns-2 c =
     let text = c .before .before .before .before .args .text .now in
     let bad : not (all isLetter text) ≡ true = sym (firstBad-all text) ∙ lt-ltb (firstBad text) (length text) (rw (c .before .first-bad .ensures) at (c .if2 .taken)) in
-    rw (c .before .before .if1 .left, bad, c .before .first-bad .ensures)
+    rw (c .before .before .if1 .left, bad) (ap (λ (p : ℕ). record { refusal = 6; place = p; word = 0 }) (c .before .first-bad .ensures))
 
 -- where both tests failed, nothing is refused
 none : (c : tie.Else2) → refusal (packGrounds (c .before .before .before .before .args .text .now)) ≡ 0

@@ -1,8 +1,10 @@
 -- `words::unpack` meets its contract: each return gives the answer under the number of the first ground whose test held, and the room as it
 -- was, or with the letters over its front.
 -- Assumes nothing.
+use Prim.Native.Nat.{ℕ}
 use mathlib.Core.Bool.{true}
-use mathlib.Core.Path.{_≡_}
+use mathlib.Core.List.{List}
+use mathlib.Core.Path.{_≡_, ap}
 use borrow.Author.Needs.{needs}
 use borrow.Author.Tests.{lt-ltb, le-ltb}
 use lib.ListN.{length}
@@ -47,7 +49,9 @@ same-length c = search needs
 
 returns-4 : tie.Need-returns-4
 unfolding unpackOutcome unpackAnswer
-returns-4 c = rw (none (c .before .before .before .before), c .before .before .write .ensures)
+returns-4 c =
+    let n = c .before .before .before .before .before .before .before .before .before .args .length in
+    rw (none (c .before .before .before .before)) (ap (λ (l : List ℕ). record { refusal = 0; written = n; room = l }) (c .before .before .write .ensures))
 
 pub unpack-spec : {M : Type 1} → statement M
 unpack-spec =

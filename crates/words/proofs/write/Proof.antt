@@ -38,7 +38,7 @@ sub-capital : tie.Need-sub-capital Inv-loop μ-loop
 sub-capital c = search needs
 
 sub-capital-2 : tie.Need-sub-capital-2 Inv-loop μ-loop
-sub-capital-2 c = search needs
+sub-capital-2 c = omega arith
 
 mul-capital : tie.Need-mul-capital Inv-loop μ-loop
 mul-capital c = search needs
