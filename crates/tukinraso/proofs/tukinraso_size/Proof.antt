@@ -3,7 +3,7 @@
 use mathlib.Core.Path.{_≡_, ap}
 use native.Mathlib.Omega.{arith}
 use borrow.Author.Needs.{needs}
-use Rattle.definitions.specs.Outcomes.{Counted, sizeOutcome, foreignSizeOutcome}
+use Rattle.definitions.specs.Outcomes.{Counted, sizeOutcome, foreignSizeOutcome, coded}
 use Rattle.laws.specs.Accepted.{size-refusal-most}
 use Rattle.sizes.specs.Answers.{counted}
 use Rattle.tukinraso.proofs.tukinraso_size.Statement.{statement}
@@ -23,7 +23,10 @@ coded-requires c κs =
 
 returns : tie.Need-returns
 unfolding foreignSizeOutcome
-returns c = rw (c .coded .ensures, ← given (c .before))
+returns c =
+    let sized = c .before .size .result in
+    let number : c .coded .result ≡ coded (sized .refusal) 0 (sized .count) = c .coded .ensures in
+    rw (number, ← given (c .before))
 
 pub tukinraso-size-spec : {M : Type 1} → statement M
 tukinraso-size-spec = tie.close (tie.spec size-requires coded-requires returns)
