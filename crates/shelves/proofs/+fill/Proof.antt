@@ -1,12 +1,14 @@
 -- The proof of the cycle of calls {fill}. The measure is how many letters are left.
 -- The loop's invariant: the k-mers under the letters before this one are listed, as `Going` has it. Its measure is how many letters remain.
 -- Assumes nothing.
-use Prim.Native.Nat.{ℕ, _-_, _<_}
+use Prim.Native.Nat.{ℕ, _+_, _-_, _*_, _<_}
 use mathlib.Core.Logic.{⊎-elim}
+use mathlib.Core.Path.{_≡_, ap}
 use native.Mathlib.Omega.{arith}
 use borrow.Fn.Kinds.{In}
 use borrow.Fn.PlainCycle.{Measures, is, falls, and}
 use Rattle.shelves.proofs.Listing.{Going, listed-full, listed-once, ready, longer-ready, descend, going-first, going-fits, going-long, going-room, going-into, going-past, going-all}
+use Rattle.shelves.specs.declared.Beginning.{Beginning}
 use Rattle.shelves.specs.Descents.{AtOnce}
 use Rattle.shelves.proofs.fill.Reads as fill
 use Rattle.shelves.proofs.fill.Kinds as fill-kinds
@@ -103,6 +105,7 @@ fill-fill-requires t c κs =
     let some = some-letter t (c .before .before .before .before .before .before) in
     let at = c .before .before .before .before .before .loop in
     let entered : at .passed < c .before .before .before .ways-under .result = omega arith in
+    let next : c .before .longer .result .begun ≡ 4 * start .args .at .begun + at .letter = ap (λ (b : Beginning). b .begun) (c .before .longer .ensures) in
     rw (c .before .longer .ensures) (omega (arith, start .pre .0, some), descend (start .pre .1) some (omega arith) (c .before .before .before .ways-under .ensures) entered)
 
 fill-add-written : (t : ℕ) → fill-lts.Need-add-written (calls t) (fill-at t) fill.Post fill-Inv-loop fill-μ-loop
