@@ -151,6 +151,11 @@ pub worksheet-refused : worksheetOutcome 3 2 16 0 ≡ record { refusal = 3; ante
 unfolding worksheetOutcome worksheetAnswer
 worksheet-refused = refl
 
+-- 16 has no two letters: it is too large for m, though not for k
+pub word-refused : sizeOutcome 3 2 0 16 ≡ record { refusal = 4; count = 0 }
+unfolding sizeOutcome sizeAnswer
+word-refused = refl
+
 -- the last rows of antemers of W2 and W3; k − m = 10 is served and 11 refused, after 3
 pub counter-cases : (counterOutcome 3 2 0 10 ≡ record { refusal = 0; count = 1 }) × (counterOutcome 4 3 48 0 ≡ record { refusal = 0; count = 0 })
     × (refusal (counterGrounds 11 1 0 0) ≡ 0) × (counterOutcome 12 1 0 0 ≡ record { refusal = 9; count = 0 })
