@@ -1,20 +1,22 @@
 -- Demand 1. Every operation answers every input: no contract asks anything beforehand, and the prover admits no function that may not end or may
 -- go wrong. Here stands what it refuses: the number is that of the first ground that is met in the operation's list, which is the lowest of those
--- that are met, and 0 where none is; beside a refusal stand zeros, or the place of the first bad letter, and every lent room is as it was. The
--- lists are spelled out first; each ground, with its number and its test, is in `Refusals` of `definitions`.
+-- that are met, and 0 where none is; beside a refusal stand zeros, or the place of the first bad letter, and every lent room is as it was; nor
+-- is room beyond what is written changed. The lists are spelled out first; each ground, with its number and its test, is in `Refusals` of
+-- `definitions`.
 -- Assumes nothing.
 use Prim.Native.Nat.{ℕ, zero, suc, _+_, _-_, _*_, _^_, _≤_, _<_, min}
 use mathlib.Core.Bool.{true, false}
-use mathlib.Core.List.{List, [], _∷_, _++_, List·Memᴰ}
-use mathlib.Core.Path.{_≡_, refl, ap, _∙_}
+use mathlib.Core.List.{List, [], _∷_, _++_, map, List·Memᴰ}
+use mathlib.Core.Path.{_≡_, refl, sym, ap, subst, _∙_}
 use native.Mathlib.Omega.{arith}
 use borrow.Author.Tests.{ltb-true}
 use contract.Lifetimes.{Lfts}
 use denote.Ref.{now}
 use lib.Dec.{ltb}
-use lib.ListN.{length, replicate}
-use Rattle.definitions.specs.Lists.{all}
-use Rattle.definitions.specs.Words.{Word, word as wordOf}
+use lib.ListN.{length, replicate, drop, length-map}
+use lib.Seq.{drop-at}
+use Rattle.definitions.specs.Lists.{all, over}
+use Rattle.definitions.specs.Words.{Word, val, word as wordOf, text}
 use Rattle.definitions.specs.Vigemins.{Form, keyed, windows}
 use Rattle.definitions.specs.Shelves as shelves
 use Rattle.definitions.specs.Refusals.{Ground, refusal, badLength, badM, badKey, badWord, badSequence, badLetter, badRoom, badStart, badCounter, placeBeside}
@@ -22,6 +24,7 @@ use Rattle.definitions.specs.Outcomes as outcomes
 use Rattle.definitions.specs.Cards as cards
 use Rattle.laws.specs.Counting.{Above}
 use Rattle.laws.specs.Tests.{and-l, and-r}
+use Rattle.laws.specs.Numbers.{length-text}
 use Rattle.laws.specs.Orders.{keyRanking}
 use Rattle.laws.specs.Refusals.{numbers, rising, refusal-met, refusal-zero, refusal-none, refusal-lowest}
 use Rattle.words.specs.Answers.{packed, unpacked}
@@ -304,3 +307,48 @@ foreign-scan-refuses κs k m key seq room r last h =
     let a = coded-scan (keyed (wordOf m key)) k m (now seq) (now room) (refusal (scanTests k m key (now seq) 4 (now room))) in
     let answer = ap (λ (o : outcomes.ForeignScanned). o .answer) h in
     (λ e. answer ∙ a .0 e, λ g. (answer ∙ a .1 g .0, ap (λ (o : outcomes.ForeignScanned). o .room) h ∙ a .1 g .1))
+
+-- ---- room beyond what is written
+
+-- what is written over the front of a room leaves the rest as it was
+rest-kept : (new old : List ℕ) (n : ℕ) → length new ≡ n → drop n (over new old) ≡ drop n old
+rest-kept new old n e = drop-at new (drop (length new) old) n e ∙ ap (λ (i : ℕ). drop i old) e
+
+unpack-rest : (n word i : ℕ) (room : List ℕ) → let o = outcomes.unpackAnswer i word n room in drop (o .written) (o .room) ≡ drop (o .written) room
+unfolding outcomes.unpackAnswer
+unpack-rest n word zero room = rest-kept (text (wordOf n word)) room n (length-text n word)
+unpack-rest n word (suc i) room = refl
+
+page-rest : (f : Form) (k : ℕ) (w : Word) (start n : ℕ) (room : List ℕ) → let o = outcomes.pageAnswer n f k w start room in drop (o .written) (o .room) ≡ drop (o .written) room
+unfolding outcomes.pageAnswer
+page-rest f k w start zero room = rest-kept (map val (shelves.page f k w start (length room))) room _ refl
+page-rest f k w start (suc n) room = refl
+
+list-rest : (f : Form) (k : ℕ) (w : Word) (n : ℕ) (room : List ℕ) → let o = listers.listAnswer n f k w room in drop (o .written) (o .room) ≡ drop (o .written) room
+unfolding listers.listAnswer
+list-rest f k w zero room = rest-kept (map val (shelves.shelf f k w)) room (shelves.size f k w) (length-map (shelves.shelf f k w) val)
+list-rest f k w (suc n) room = refl
+
+-- unpacking, refused or not, changes no more of the room than it says that it wrote (of the scans Second says it)
+pub unpack-spare : (κs : Lfts 1) (word n : ℕ) (room : Lent) (r : _) (last : List ℕ) → Unpacks κs word n room r last
+    → drop (r .written) last ≡ drop (r .written) (now room)
+unfolding outcomes.unpackOutcome
+unpack-spare κs word n room r last h =
+    subst (λ (o : outcomes.Unpacked). drop (o .written) (o .room) ≡ drop (o .written) (now room)) (sym h)
+    (unpack-rest n word (refusal (unpackTests word n (now room))) (now room))
+
+-- a page
+pub page-spare : (κs : Lfts 1) (k m key word start : ℕ) (room : Lent) (r : _) (last : List ℕ) → Pages κs k m key word start room r last
+    → drop (r .written) last ≡ drop (r .written) (now room)
+unfolding outcomes.pageOutcome
+page-spare κs k m key word start room r last h =
+    subst (λ (o : outcomes.Paged). drop (o .written) (o .room) ≡ drop (o .written) (now room)) (sym h)
+    (page-rest (keyed (wordOf m key)) k (wordOf m word) start (refusal (pageTests k m key word start)) (now room))
+
+-- a whole shelf by pages
+pub list-spare : (κs : Lfts 1) (k m key word each : ℕ) (room : Lent) (r : _) (last : List ℕ) → Lists κs k m key word each room r last
+    → drop (r .written) last ≡ drop (r .written) (now room)
+unfolding listers.listOutcome
+list-spare κs k m key word each room r last h =
+    subst (λ (o : listers.Listed). drop (o .written) (o .room) ≡ drop (o .written) (now room)) (sym h)
+    (list-rest (keyed (wordOf m key)) k (wordOf m word) (refusal (listTests k m key word each (now room))) (now room))

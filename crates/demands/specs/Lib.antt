@@ -4,10 +4,11 @@
 --
 -- Contracts     what each operation may answer and leave in its room: its contract, at plain arguments
 -- Meanings      a vigemin, an antemer, a postmer and a number of words, in document 01's sentences, beside the definitions that compute them
--- First         demand 1: the lists of refusals; the number given is the first met and the lowest; what stands beside it; room as it was
+-- First         demand 1: the lists of refusals; the number given is the first met and the lowest; what stands beside it; room as it was, and
+--                   beyond what is written
 --                   pack-refuses, unpack-refuses, vigemin-refuses, size-refuses, worksheet-refuses, counter-refuses, page-refuses, list-refuses,
 --                   scan-refuses, scan-bytes-refuses, examine-refuses, prepare-refuses, read-refuses, card-refuses, foreign-size-refuses,
---                   foreign-scan-refuses
+--                   foreign-scan-refuses; unpack-spare, page-spare, list-spare
 -- Second        demand 2: sizes, worksheets, the plain counter, the vigemin and the scan are what the notions say
 --                   size-right, worksheet-right, size-worksheet, counter-right, counter-worksheet, vigemin-right, scan-right, scan-bytes-right,
 --                   foreign-size-right, foreign-scan-right

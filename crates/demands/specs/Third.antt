@@ -10,14 +10,14 @@ use mathlib.Core.Path.{_≡_, refl, sym, ap, ap₂, subst, _∙_}
 use native.Mathlib.Omega.{arith}
 use contract.Lifetimes.{Lfts}
 use denote.Ref.{now}
-use lib.ListN.{length, take, length-map}
+use lib.ListN.{length, getD, take, drop, length-map}
 use lib.Seq.{take-at}
 use Rattle.definitions.specs.Lists.{over}
 use Rattle.definitions.specs.Words.{Word, Mer, val, word as wordOf}
 use Rattle.definitions.specs.Vigemins.{keyed, vigeminAt}
 use Rattle.definitions.specs.Shelves.{shelf, size}
 use Rattle.definitions.specs.Outcomes.{Paged, pageOutcome}
-use Rattle.laws.specs.Counting.{Increasing}
+use Rattle.laws.specs.Counting.{Increasing, increasing-once}
 use Rattle.laws.specs.Numbers.{four-pos, digits-below, digits-number, length-digits, number-digits-lt}
 use Rattle.laws.specs.Catalogue.{shelf-holds, shelf-increasing}
 use Rattle.laws.specs.Accepted.{ShelfAccepted}
@@ -31,10 +31,11 @@ use Rattle.shelves.proofs.page.Kinds as page-kinds
 
 -- ---- a shelf that is held by some numbers
 
--- some numbers are those of the shelf of w: of every k-mer with vigemin w, and of no other; in alphabet order, and so each once
+-- some numbers are those of the shelf of w: of every k-mer with vigemin w, each once, in alphabet order, and of no other
 pub record HoldsShelf (k : ℕ) (key w : Word) (numbers : List ℕ) : Type 0 where
   pub every : (x : Word) → Mer k x → Vigemin key w x → List·Memᴰ (val x) numbers
   pub noOther : (n : ℕ) → List·Memᴰ n numbers → (x : Word) × Mer k x × Vigemin key w x × (val x ≡ n)
+  pub once : (i j : ℕ) → i < length numbers → j < length numbers → getD numbers i 0 ≡ getD numbers j 0 → i ≡ j
   pub inOrder : Increasing numbers
 
 -- the shelf that is defined is held by its numbers
@@ -47,6 +48,7 @@ shelf-means k key w fits =
           λ n m. let r = Memᴰ·of-map val (shelf f k w) m in
           let s = shelf-holds f k w (r .0) .0 (r .1) in
           (r .0, s .0, (vigeminAt f (length w) (r .0), vigemin-means key w (r .0) (rw (s .0 .0) fits) (s .1)), r .2);
+      once = increasing-once (map val (shelf f k w)) (shelf-increasing f k w);
       inOrder = shelf-increasing f k w;
     }
 
