@@ -2,7 +2,7 @@
 -- Assumes nothing.
 use mathlib.Core.Path.{refl, sym, ap, _∙_}
 use Rattle.definitions.specs.Cards.{Printed}
-use Rattle.definitions.specs.Contracts.{Determines}
+use Rattle.laws.specs.Contracts.{Determines}
 use Rattle.cards.proofs.card.Kinds as card-kinds
 use Rattle.cards.proofs.card.Reads as card-reads
 

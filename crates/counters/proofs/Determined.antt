@@ -1,7 +1,7 @@
 -- The contracts of `counters` determine their outcomes: any two that one allows are equal.
 -- Assumes nothing.
 use mathlib.Core.Path.{refl, sym, ap, _∙_}
-use Rattle.definitions.specs.Contracts.{Determines}
+use Rattle.laws.specs.Contracts.{Determines}
 use Rattle.definitions.specs.Outcomes.{Counted}
 use Rattle.counters.proofs.antemers.Kinds as antemers-kinds
 use Rattle.counters.proofs.antemers.Reads as antemers-reads

@@ -37,7 +37,6 @@
 --   asks            what a line asks for: k, m, and the numbers of the key and the word
 --   decimal         a number's digits; settings and entries, the lines that are printed
 --   readOutcome, cardOutcome
--- Contracts     Determines: any two outcomes that a contract allows are equal
 -- Cases         W1 to W12 of document 01, proved under one claim; then cases of what these do not ask
 pub mod Lists
 pub mod Words
@@ -46,5 +45,4 @@ pub mod Shelves
 pub mod Refusals
 pub mod Outcomes
 pub mod Cards
-pub mod Contracts
 pub mod Cases

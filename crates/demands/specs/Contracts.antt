@@ -6,7 +6,7 @@ use mathlib.Core.List.{List}
 use borrow.Fn.Kinds.{RK, resT}
 use contract.Lifetimes.{Lfts}
 use denote.Ref.{RefT}
-use Rattle.definitions.specs.Contracts.{Allows}
+use Rattle.laws.specs.Contracts.{Allows}
 use Rattle.words.proofs.pack.Kinds as pack-kinds
 use Rattle.words.proofs.pack.Reads as pack-reads
 use Rattle.words.proofs.unpack.Kinds as unpack-kinds

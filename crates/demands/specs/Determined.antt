@@ -2,7 +2,7 @@
 -- hold at last (document 01, "Proof of each answer"). Here stands every public function of a library crate. Each theorem is proved in the crate of
 -- its function, in proofs/Determined.antt, so that a contract that tells less is refused there.
 -- Assumes nothing.
-use Rattle.definitions.specs.Contracts.{Determines}
+use Rattle.laws.specs.Contracts.{Determines}
 use Rattle.powers.proofs.powers.Kinds as powers-kinds
 use Rattle.powers.proofs.powers.Reads as powers-reads
 use Rattle.powers.proofs.power.Kinds as power-kinds
@@ -18,17 +18,18 @@ use Rattle.powers.proofs.word_refusal.Reads as word-refusal-reads
 use Rattle.powers.proofs.sign.Kinds as sign-kinds
 use Rattle.powers.proofs.sign.Reads as sign-reads
 use Rattle.powers.proofs.Determined.{powers-determined, power-determined, lesser-determined, too-large-determined, order-refusal-determined, word-refusal-determined, sign-determined}
-use Rattle.words.proofs.is_letter.Kinds as is-letter-kinds
-use Rattle.words.proofs.is_letter.Reads as is-letter-reads
-use Rattle.words.proofs.letter.Kinds as letter-kinds
-use Rattle.words.proofs.letter.Reads as letter-reads
-use Rattle.words.proofs.first_bad.Kinds as first-bad-kinds
-use Rattle.words.proofs.first_bad.Reads as first-bad-reads
+use Rattle.letters.proofs.is_letter.Kinds as is-letter-kinds
+use Rattle.letters.proofs.is_letter.Reads as is-letter-reads
+use Rattle.letters.proofs.letter.Kinds as letter-kinds
+use Rattle.letters.proofs.letter.Reads as letter-reads
+use Rattle.letters.proofs.first_bad.Kinds as first-bad-kinds
+use Rattle.letters.proofs.first_bad.Reads as first-bad-reads
+use Rattle.letters.proofs.Determined.{is-letter-determined, letter-determined, first-bad-determined}
 use Rattle.words.proofs.pack.Kinds as pack-kinds
 use Rattle.words.proofs.pack.Reads as pack-reads
 use Rattle.words.proofs.unpack.Kinds as unpack-kinds
 use Rattle.words.proofs.unpack.Reads as unpack-reads
-use Rattle.words.proofs.Determined.{is-letter-determined, letter-determined, first-bad-determined, pack-determined, unpack-determined}
+use Rattle.words.proofs.Determined.{pack-determined, unpack-determined}
 use Rattle.vigemins.proofs.value.Kinds as value-kinds
 use Rattle.vigemins.proofs.value.Reads as value-reads
 use Rattle.vigemins.proofs.vigemin.Kinds as vigemin-kinds
@@ -82,10 +83,11 @@ pub record EveryContract : Type 0 where
   pub order-refusal : Determines order-refusal-kinds.ps order-refusal-kinds.r order-refusal-reads.Post
   pub word-refusal : Determines word-refusal-kinds.ps word-refusal-kinds.r word-refusal-reads.Post
   pub sign : Determines sign-kinds.ps sign-kinds.r sign-reads.Post
-  -- words
+  -- letters
   pub is-letter : Determines is-letter-kinds.ps is-letter-kinds.r is-letter-reads.Post
   pub letter : Determines letter-kinds.ps letter-kinds.r letter-reads.Post
   pub first-bad : Determines first-bad-kinds.ps first-bad-kinds.r first-bad-reads.Post
+  -- words
   pub pack : Determines pack-kinds.ps pack-kinds.r pack-reads.Post
   pub unpack : Determines unpack-kinds.ps unpack-kinds.r unpack-reads.Post
   -- vigemins

@@ -23,6 +23,7 @@
 -- RoundTrips                packing and unpacking lead back to each other; a scan agrees with the vigemin of each window, and the plain
 --                           counter with the worksheet
 -- Listings                  pages taken one after the other are the shelf
+-- Contracts                 what a contract allows, and when it determines the outcome
 -- Cards                     when a line is well formed, and how long it is then; the k-mers that are printed
 pub mod Tests
 pub mod Filters
@@ -57,3 +58,4 @@ pub mod Accepted
 pub mod RoundTrips
 pub mod Listings
 pub mod Cards
+pub mod Contracts

@@ -2,7 +2,7 @@
 -- Assumes nothing.
 use mathlib.Core.Path.{refl, sym, ap, _∙_}
 use Rattle.definitions.specs.Cards.{Line}
-use Rattle.definitions.specs.Contracts.{Determines}
+use Rattle.laws.specs.Contracts.{Determines}
 use Rattle.lines.proofs.read.Kinds as read-kinds
 use Rattle.lines.proofs.read.Reads as read-reads
 

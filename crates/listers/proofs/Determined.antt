@@ -1,7 +1,7 @@
 -- The contracts of `listers` determine their outcomes: any two that one allows are equal.
 -- Assumes nothing.
 use mathlib.Core.Path.{sym, ap, _∙_}
-use Rattle.definitions.specs.Contracts.{Determines}
+use Rattle.laws.specs.Contracts.{Determines}
 use Rattle.listers.specs.Answers.{Listed}
 use Rattle.listers.proofs.list.Kinds as list-kinds
 use Rattle.listers.proofs.list.Reads as list-reads

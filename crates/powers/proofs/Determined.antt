@@ -1,7 +1,7 @@
 -- The contracts of `powers` determine their outcomes: any two that one allows are equal.
 -- Assumes nothing.
 use mathlib.Core.Path.{refl, sym, _∙_}
-use Rattle.definitions.specs.Contracts.{Determines}
+use Rattle.laws.specs.Contracts.{Determines}
 use Rattle.powers.proofs.lesser.Kinds as lesser-kinds
 use Rattle.powers.proofs.lesser.Reads as lesser-reads
 use Rattle.powers.proofs.order_refusal.Kinds as order-refusal-kinds

@@ -1,7 +1,7 @@
 -- The contracts of `scans` determine their outcomes: any two that one allows are equal.
 -- Assumes nothing.
 use mathlib.Core.Path.{sym, ap, _∙_}
-use Rattle.definitions.specs.Contracts.{Determines}
+use Rattle.laws.specs.Contracts.{Determines}
 use Rattle.definitions.specs.Outcomes.{Scanned}
 use Rattle.scans.proofs.scan.Kinds as scan-kinds
 use Rattle.scans.proofs.scan.Reads as scan-reads

@@ -11,7 +11,7 @@ use Rattle.definitions.specs.Vigemins.{keyed, leastPlace, scan}
 use Rattle.laws.specs.Minima.{length-values}
 use Rattle.laws.specs.Numbers.{four-pos, spelled-letters}
 use Rattle.laws.specs.Rolls.{rolled, roll-letter, values, value-rolled, values-under, scan-values}
-use Rattle.words.specs.Letters.{code-spelled}
+use Rattle.letters.specs.Letters.{code-spelled}
 use Rattle.scans.specs.declared.Settings.{Settings}
 use Rattle.scans.specs.declared.Mer.{Mer}
 use Rattle.scans.specs.Readings.{Prepared, Rollable, rollOn, Stamped, Readable}

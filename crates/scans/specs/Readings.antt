@@ -11,7 +11,7 @@ use Rattle.definitions.specs.Words.{isLetter, spelled, word as wordOf}
 use Rattle.definitions.specs.Vigemins.{keyed, scan}
 use Rattle.laws.specs.Rolls.{rolled, values}
 use Rattle.laws.specs.Stamps.{lowest, leastFrom}
-use Rattle.words.specs.Letters.{codeOf}
+use Rattle.letters.specs.Letters.{codeOf}
 use Rattle.scans.specs.declared.Settings.{Settings}
 use Rattle.scans.specs.declared.Mer.{Mer}
 use Rattle.scans.specs.declared.Reading.{Reading}

@@ -64,7 +64,7 @@ fn roll(s: Settings, word: u64, byte: u8) -> u64
     requires { ⌜ Rollable s word ⌝ }
     ensures { λ r. ⌜ Rolled s word byte r ⌝ }
 {
-    (word << 2) + words::letter(byte) * s.side
+    (word << 2) + letters::letter(byte) * s.side
 }
 
 // An m-mer that was read, and its stamp.

@@ -1,7 +1,7 @@
 -- The contracts of `sequences` determine their outcomes: any two that one allows are equal.
 -- Assumes nothing.
 use mathlib.Core.Path.{refl, sym, ap, _∙_}
-use Rattle.definitions.specs.Contracts.{Determines}
+use Rattle.laws.specs.Contracts.{Determines}
 use Rattle.sequences.specs.Answers.{Examined}
 use Rattle.sequences.proofs.examine.Kinds as examine-kinds
 use Rattle.sequences.proofs.examine.Reads as examine-reads

@@ -38,7 +38,7 @@ pub fn examine(k: u64, m: u64, key: u64, seq: &[u8], takes: u64) -> Examined
             windows: 0,
         };
     }
-    let bad = words::first_bad(seq) as u64;
+    let bad = letters::first_bad(seq) as u64;
     let windows = window_count(n, k);
     if bad < n {
         return Examined {

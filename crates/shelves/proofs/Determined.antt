@@ -1,7 +1,7 @@
 -- The contracts of `shelves` determine their outcomes: any two that one allows are equal.
 -- Assumes nothing.
 use mathlib.Core.Path.{sym, ap, _∙_}
-use Rattle.definitions.specs.Contracts.{Determines}
+use Rattle.laws.specs.Contracts.{Determines}
 use Rattle.definitions.specs.Outcomes.{Paged}
 use Rattle.shelves.proofs.page.Kinds as page-kinds
 use Rattle.shelves.proofs.page.Reads as page-reads

@@ -1,7 +1,7 @@
 -- The contracts of `sizes` determine their outcomes: any two that one allows are equal.
 -- Assumes nothing.
 use mathlib.Core.Path.{refl, sym, ap, _∙_}
-use Rattle.definitions.specs.Contracts.{Determines}
+use Rattle.laws.specs.Contracts.{Determines}
 use Rattle.definitions.specs.Outcomes.{Counted}
 use Rattle.sizes.proofs.size.Kinds as size-kinds
 use Rattle.sizes.proofs.size.Reads as size-reads

@@ -1,7 +1,7 @@
 -- The contracts of `states` determine their outcomes: any two that one allows are equal.
 -- Assumes nothing.
 use mathlib.Core.Path.{refl, sym, ap, _∙_}
-use Rattle.definitions.specs.Contracts.{Determines}
+use Rattle.laws.specs.Contracts.{Determines}
 use Rattle.states.specs.Answers.{Prepared}
 use Rattle.states.proofs.prepare.Kinds as prepare-kinds
 use Rattle.states.proofs.prepare.Reads as prepare-reads

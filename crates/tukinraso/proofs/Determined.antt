@@ -1,7 +1,7 @@
 -- The contracts of `tukinraso` determine their outcomes: any two that one allows are equal.
 -- Assumes nothing.
 use mathlib.Core.Path.{refl, sym, ap, _∙_}
-use Rattle.definitions.specs.Contracts.{Determines}
+use Rattle.laws.specs.Contracts.{Determines}
 use Rattle.definitions.specs.Outcomes.{ForeignScanned}
 use Rattle.tukinraso.proofs.tukinraso_scan.Kinds as tukinraso-scan-kinds
 use Rattle.tukinraso.proofs.tukinraso_scan.Reads as tukinraso-scan-reads

@@ -1,7 +1,7 @@
 -- The contracts of `vigemins` determine their outcomes: any two that one allows are equal.
 -- Assumes nothing.
 use mathlib.Core.Path.{refl, sym, ap, _∙_}
-use Rattle.definitions.specs.Contracts.{Determines}
+use Rattle.laws.specs.Contracts.{Determines}
 use Rattle.definitions.specs.Outcomes.{Found}
 use Rattle.vigemins.proofs.value.Kinds as value-kinds
 use Rattle.vigemins.proofs.value.Reads as value-reads

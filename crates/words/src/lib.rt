@@ -1,65 +1,12 @@
-// Words: letters and bytes, packing and unpacking. Assumes nothing.
+// Words: packing and unpacking. Assumes nothing.
 ghost use mathlib.Core.Path.{_≡_};
 ghost use Prim.Native.Nat.{_<_};
 ghost use lib.ListN.{getD};
-ghost use Rattle.definitions.specs.Lists.{all, over};
-ghost use Rattle.definitions.specs.Words.{val, isLetter, spelled, capitals, word as wordOf, text as written};
-ghost use Rattle.definitions.specs.Refusals.{firstBad};
+ghost use Rattle.definitions.specs.Lists.{over};
+ghost use Rattle.definitions.specs.Words.{val, spelled, capitals, word as wordOf, text as written};
 ghost use Rattle.definitions.specs.Outcomes.{packOutcome, unpackOutcome};
 ghost use Rattle.laws.specs.Accepted.{PackAccepted, UnpackAccepted};
-ghost use Rattle.words.specs.Letters.{codeOf};
 ghost use Rattle.words.specs.Answers.{packed, unpacked};
-
-// Whether a byte is a letter.
-pub fn is_letter(byte: u8) -> bool
-    ensures { λ r. ⌜ r ≡ isLetter byte ⌝ }
-{
-    (byte == b'A') | (byte == b'C') | (byte == b'G') | (byte == b'T')
-}
-
-// The letter that a byte is read as, by arithmetic; of a byte that is no letter, whatever the arithmetic gives.
-pub fn letter(byte: u8) -> u64
-    ensures { λ r. ⌜ r ≡ codeOf byte ⌝ }
-{
-    (byte as u64) * 3 / 8 % 4
-}
-
-// Whether every byte is a letter. It goes through to the end, so that several bytes can be tested at once.
-fn all_letters(text: &[u8]) -> bool
-    ensures { λ r. ⌜ r ≡ all isLetter (now (text .entry)) ⌝ }
-{
-    let mut all = true;
-    let mut i = 0;
-    while i < text.len() {
-        all = all & is_letter(text[i]);
-        i += 1;
-    }
-    all
-}
-
-// The place of the first byte that is no letter; the length where there is none.
-fn find_bad(text: &[u8]) -> usize
-    ensures { λ r. ⌜ r ≡ firstBad (now (text .entry)) ⌝ }
-{
-    let mut i = 0;
-    while i < text.len() {
-        if !is_letter(text[i]) {
-            return i;
-        }
-        i += 1;
-    }
-    i
-}
-
-// The place of the first byte that is no letter; the length where there is none. A text of letters alone is told fast.
-pub fn first_bad(text: &[u8]) -> usize
-    ensures { λ r. ⌜ r ≡ firstBad (now (text .entry)) ⌝ }
-{
-    if all_letters(text) {
-        return text.len();
-    }
-    find_bad(text)
-}
 
 // The number of the word that a text of at most 31 letters spells.
 fn read(text: &[u8]) -> u64
@@ -69,7 +16,7 @@ fn read(text: &[u8]) -> u64
     let mut word: u64 = 0;
     let mut i = 0;
     while i < text.len() {
-        word = word * 4 + letter(text[i]);
+        word = word * 4 + letters::letter(text[i]);
         i += 1;
     }
     word
@@ -94,7 +41,7 @@ pub fn pack(text: &[u8]) -> Packed
             word: 0,
         };
     }
-    let bad = first_bad(text);
+    let bad = letters::first_bad(text);
     if bad < n {
         return Packed {
             refusal: 6,

@@ -1,7 +1,7 @@
 -- The contracts of `worksheets` determine their outcomes: any two that one allows are equal.
 -- Assumes nothing.
 use mathlib.Core.Path.{refl, sym, ap, _∙_}
-use Rattle.definitions.specs.Contracts.{Determines}
+use Rattle.laws.specs.Contracts.{Determines}
 use Rattle.definitions.specs.Outcomes.{Worked}
 use Rattle.worksheets.proofs.worksheet.Kinds as worksheet-kinds
 use Rattle.worksheets.proofs.worksheet.Reads as worksheet-reads

@@ -8,7 +8,7 @@ use borrow.Author.Needs.{needs}
 use lib.Bits.{bitXor}
 use Rattle.laws.specs.Numbers.{four-pos, xor-letters}
 use Rattle.laws.specs.Stamps.{stamp-room}
-use Rattle.words.specs.Letters.{codeOf}
+use Rattle.letters.specs.Letters.{codeOf}
 use Rattle.scans.specs.declared.Settings.{Settings}
 use Rattle.scans.specs.Readings.{top, Prepared, Rolled, rollOn}
 use Rattle.scans.proofs.next_mer.Statement.{statement}

@@ -8,7 +8,7 @@ use borrow.Author.Needs.{needs}
 use Rattle.laws.specs.Numbers.{four-pos}
 use Rattle.laws.specs.Rolls.{roll-high}
 use Rattle.laws.specs.Stamps.{stamp-room}
-use Rattle.words.specs.Letters.{codeOf, code-lt}
+use Rattle.letters.specs.Letters.{codeOf, code-lt}
 use Rattle.scans.specs.declared.Settings.{Settings}
 use Rattle.scans.specs.Readings.{top, Prepared, rollOn}
 use Rattle.scans.proofs.roll.Statement.{statement}

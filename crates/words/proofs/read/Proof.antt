@@ -14,7 +14,7 @@ use Rattle.definitions.specs.Words.{val, spelled}
 use Rattle.laws.specs.Accepted.{PackAccepted}
 use Rattle.laws.specs.Numbers.{four-pos, number-lt, letters-take, spelled-letters}
 use Rattle.laws.specs.Rolls.{number-front}
-use Rattle.words.specs.Letters.{codeOf, code-lt, code-spelled}
+use Rattle.letters.specs.Letters.{codeOf, code-lt, code-spelled}
 use Rattle.words.proofs.read.Statement.{statement}
 use Rattle.words.proofs.read.Tie as tie
 

@@ -1,4 +1,4 @@
--- `words::all_letters` meets its contract. The loop's invariant: what was found so far, with whether all that is left are letters, is
+-- `letters::all_letters` meets its contract. The loop's invariant: what was found so far, with whether all that is left are letters, is
 -- whether all are. The measure is what is left of the length.
 -- Assumes nothing.
 use Prim.Native.Nat.{ℕ, suc, _-_, _≤_, _<_}
@@ -12,8 +12,8 @@ use lib.ListN.{length, getD, drop}
 use lib.Seq.{drop-cons, drop-length}
 use Rattle.definitions.specs.Lists as lists
 use Rattle.definitions.specs.Words.{isLetter}
-use Rattle.words.proofs.all_letters.Statement.{statement}
-use Rattle.words.proofs.all_letters.Tie as tie
+use Rattle.letters.proofs.all_letters.Statement.{statement}
+use Rattle.letters.proofs.all_letters.Tie as tie
 
 -- one byte more was looked at
 one-more : (t : Bool) (l : List ℕ) (i : ℕ) → i < length l

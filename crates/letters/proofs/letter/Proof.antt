@@ -1,9 +1,9 @@
--- `words::letter` meets its contract, which says the same arithmetic.
+-- `letters::letter` meets its contract, which says the same arithmetic.
 -- Assumes nothing.
 use mathlib.Core.Path.{refl}
 use borrow.Author.Needs.{needs}
-use Rattle.words.proofs.letter.Statement.{statement}
-use Rattle.words.proofs.letter.Tie as tie
+use Rattle.letters.proofs.letter.Statement.{statement}
+use Rattle.letters.proofs.letter.Tie as tie
 
 mul-result : tie.Need-mul-result
 mul-result c = search needs

@@ -1,11 +1,11 @@
--- `words::is_letter` meets its contract: a byte's letter is below 4 exactly if the byte is one of the four capitals.
+-- `letters::is_letter` meets its contract: a byte's letter is below 4 exactly if the byte is one of the four capitals.
 -- Assumes nothing.
 use mathlib.Core.Bool.{Bool, true, false, cond, _||_}
 use mathlib.Core.Path.{_≡_, refl}
 use Prim.Native.Nat.{suc}
 use lib.Dec.{ltb, eqb}
-use Rattle.words.proofs.is_letter.Statement.{statement}
-use Rattle.words.proofs.is_letter.Tie as tie
+use Rattle.letters.proofs.is_letter.Statement.{statement}
+use Rattle.letters.proofs.is_letter.Tie as tie
 
 -- one of four tests holds exactly if the first place at which one holds is below 4
 one-of-four : (a b c d : Bool) → (a || b || c || d) ≡ ltb (cond a 0 (suc (cond b 0 (suc (cond c 0 (suc (cond d 0 1))))))) 4

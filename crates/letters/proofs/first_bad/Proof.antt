@@ -1,10 +1,10 @@
--- `words::first_bad` meets its contract: where all bytes are letters, the first bad place is the end.
+-- `letters::first_bad` meets its contract: where all bytes are letters, the first bad place is the end.
 -- Assumes nothing.
 use borrow.Author.Needs.{needs}
 use mathlib.Core.Path.{sym, _∙_}
 use Rattle.laws.specs.Numbers.{firstBad-none}
-use Rattle.words.proofs.first_bad.Statement.{statement}
-use Rattle.words.proofs.first_bad.Tie as tie
+use Rattle.letters.proofs.first_bad.Statement.{statement}
+use Rattle.letters.proofs.first_bad.Tie as tie
 
 all-letters-requires : tie.Need-all-letters-requires
 all-letters-requires c κs = search needs

@@ -1,4 +1,4 @@
--- `words::find_bad` meets its contract. The loop's invariant: the first bad place of what is left, counted from here, is that of all. The
+-- `letters::find_bad` meets its contract. The loop's invariant: the first bad place of what is left, counted from here, is that of all. The
 -- measure is what is left of the length.
 -- Assumes nothing.
 use Prim.Native.Nat.{ℕ, _+_, _-_, _≤_}
@@ -11,8 +11,8 @@ use lib.ListN.{length, getD, drop}
 use Rattle.definitions.specs.Words.{isLetter}
 use Rattle.definitions.specs.Refusals.{firstBad}
 use Rattle.laws.specs.Places.{firstPlace-look, firstPlace-end}
-use Rattle.words.proofs.find_bad.Statement.{statement}
-use Rattle.words.proofs.find_bad.Tie as tie
+use Rattle.letters.proofs.find_bad.Statement.{statement}
+use Rattle.letters.proofs.find_bad.Tie as tie
 
 -- whether a byte is no letter
 abbrev bad : ℕ → Bool

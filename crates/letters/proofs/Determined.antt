@@ -1,0 +1,19 @@
+-- The contracts of `letters` determine their outcomes: any two that one allows are equal.
+-- Assumes nothing.
+use mathlib.Core.Path.{refl, sym, _∙_}
+use Rattle.laws.specs.Contracts.{Determines}
+use Rattle.letters.proofs.first_bad.Kinds as first-bad-kinds
+use Rattle.letters.proofs.first_bad.Reads as first-bad-reads
+use Rattle.letters.proofs.is_letter.Kinds as is-letter-kinds
+use Rattle.letters.proofs.is_letter.Reads as is-letter-reads
+use Rattle.letters.proofs.letter.Kinds as letter-kinds
+use Rattle.letters.proofs.letter.Reads as letter-reads
+
+pub is-letter-determined : Determines is-letter-kinds.ps is-letter-kinds.r is-letter-reads.Post
+is-letter-determined κs args a b x y h g = (h ∙ sym g, refl)
+
+pub letter-determined : Determines letter-kinds.ps letter-kinds.r letter-reads.Post
+letter-determined κs args a b x y h g = (h ∙ sym g, refl)
+
+pub first-bad-determined : Determines first-bad-kinds.ps first-bad-kinds.r first-bad-reads.Post
+first-bad-determined κs args a b x y h g = (h ∙ sym g, refl)

@@ -1,0 +1,2 @@
+-- Determined    the contracts determine the outcomes
+pub mod Determined
