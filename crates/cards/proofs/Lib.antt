@@ -2,7 +2,7 @@
 --
 -- Laying        texts that are written one after the other, and decimal digits
 -- Answering     the answer to an input, from its line, the size and the first page
--- Determined    the contracts determine the outcomes
+-- Determined    the contracts take every input and determine the outcomes
 pub mod Laying
 pub mod Answering
 pub mod Determined

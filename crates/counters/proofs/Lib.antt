@@ -5,7 +5,7 @@
 -- Tests         the tests of document 01's rules at a place, by the numbers of the signs
 -- Direct        the first letters of the word tested directly
 -- Counts        counts of antemers by shared prefix, as they are summed up
--- Determined    the contracts determine the outcomes
+-- Determined    the contracts take every input and determine the outcomes
 pub mod Signs
 pub mod Searches
 pub mod Tests

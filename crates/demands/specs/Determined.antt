@@ -1,8 +1,9 @@
--- Every contract determines the outcome: whatever the arguments, any two outcomes that it allows are equal, the answers and what the lent rooms
--- hold at last (document 01, "Proof of each answer"). Here stands every public function of a library crate. Each theorem is proved in the crate of
--- its function, in proofs/Determined.antt, so that a contract that tells less is refused there.
+-- Every contract takes every input: it asks nothing of its caller. And every contract determines the outcome: whatever the arguments, any two
+-- outcomes that it allows are equal, the answers and what the lent rooms hold at last (document 01, "Proof of each answer"). Here stands every public
+-- function of a library crate. Each theorem is proved in the crate of its function, in proofs/Determined.antt, so that a contract that asks more or
+-- tells less is refused there.
 -- Assumes nothing.
-use Rattle.laws.specs.Contracts.{Determines}
+use Rattle.laws.specs.Contracts.{TakesAll, Determines}
 use Rattle.powers.proofs.powers.Kinds as powers-kinds
 use Rattle.powers.proofs.powers.Reads as powers-reads
 use Rattle.powers.proofs.power.Kinds as power-kinds
@@ -17,61 +18,138 @@ use Rattle.powers.proofs.word_refusal.Kinds as word-refusal-kinds
 use Rattle.powers.proofs.word_refusal.Reads as word-refusal-reads
 use Rattle.powers.proofs.sign.Kinds as sign-kinds
 use Rattle.powers.proofs.sign.Reads as sign-reads
-use Rattle.powers.proofs.Determined.{powers-determined, power-determined, lesser-determined, too-large-determined, order-refusal-determined, word-refusal-determined, sign-determined}
+use Rattle.powers.proofs.Determined.{powers-takes-all, powers-determined, power-takes-all, power-determined, lesser-takes-all, lesser-determined, too-large-takes-all, too-large-determined, order-refusal-takes-all, order-refusal-determined, word-refusal-takes-all, word-refusal-determined, sign-takes-all, sign-determined}
 use Rattle.letters.proofs.is_letter.Kinds as is-letter-kinds
 use Rattle.letters.proofs.is_letter.Reads as is-letter-reads
 use Rattle.letters.proofs.letter.Kinds as letter-kinds
 use Rattle.letters.proofs.letter.Reads as letter-reads
 use Rattle.letters.proofs.first_bad.Kinds as first-bad-kinds
 use Rattle.letters.proofs.first_bad.Reads as first-bad-reads
-use Rattle.letters.proofs.Determined.{is-letter-determined, letter-determined, first-bad-determined}
+use Rattle.letters.proofs.Determined.{is-letter-takes-all, is-letter-determined, letter-takes-all, letter-determined, first-bad-takes-all, first-bad-determined}
 use Rattle.words.proofs.pack.Kinds as pack-kinds
 use Rattle.words.proofs.pack.Reads as pack-reads
 use Rattle.words.proofs.unpack.Kinds as unpack-kinds
 use Rattle.words.proofs.unpack.Reads as unpack-reads
-use Rattle.words.proofs.Determined.{pack-determined, unpack-determined}
+use Rattle.words.proofs.Determined.{pack-takes-all, pack-determined, unpack-takes-all, unpack-determined}
 use Rattle.vigemins.proofs.value.Kinds as value-kinds
 use Rattle.vigemins.proofs.value.Reads as value-reads
 use Rattle.vigemins.proofs.vigemin.Kinds as vigemin-kinds
 use Rattle.vigemins.proofs.vigemin.Reads as vigemin-reads
-use Rattle.vigemins.proofs.Determined.{value-determined, vigemin-determined}
+use Rattle.vigemins.proofs.Determined.{value-takes-all, value-determined, vigemin-takes-all, vigemin-determined}
 use Rattle.sequences.proofs.examine.Kinds as examine-kinds
 use Rattle.sequences.proofs.examine.Reads as examine-reads
-use Rattle.sequences.proofs.Determined.{examine-determined}
+use Rattle.sequences.proofs.Determined.{examine-takes-all, examine-determined}
 use Rattle.scans.proofs.scan.Kinds as scan-kinds
 use Rattle.scans.proofs.scan.Reads as scan-reads
 use Rattle.scans.proofs.scan_bytes.Kinds as scan-bytes-kinds
 use Rattle.scans.proofs.scan_bytes.Reads as scan-bytes-reads
-use Rattle.scans.proofs.Determined.{scan-determined, scan-bytes-determined}
+use Rattle.scans.proofs.Determined.{scan-takes-all, scan-determined, scan-bytes-takes-all, scan-bytes-determined}
 use Rattle.states.proofs.prepare.Kinds as prepare-kinds
 use Rattle.states.proofs.prepare.Reads as prepare-reads
-use Rattle.states.proofs.Determined.{prepare-determined}
+use Rattle.states.proofs.Determined.{prepare-takes-all, prepare-determined}
 use Rattle.worksheets.proofs.worksheet.Kinds as worksheet-kinds
 use Rattle.worksheets.proofs.worksheet.Reads as worksheet-reads
-use Rattle.worksheets.proofs.Determined.{worksheet-determined}
+use Rattle.worksheets.proofs.Determined.{worksheet-takes-all, worksheet-determined}
 use Rattle.sizes.proofs.size.Kinds as size-kinds
 use Rattle.sizes.proofs.size.Reads as size-reads
-use Rattle.sizes.proofs.Determined.{size-determined}
+use Rattle.sizes.proofs.Determined.{size-takes-all, size-determined}
 use Rattle.counters.proofs.antemers.Kinds as antemers-kinds
 use Rattle.counters.proofs.antemers.Reads as antemers-reads
-use Rattle.counters.proofs.Determined.{antemers-determined}
+use Rattle.counters.proofs.Determined.{antemers-takes-all, antemers-determined}
 use Rattle.shelves.proofs.page.Kinds as page-kinds
 use Rattle.shelves.proofs.page.Reads as page-reads
-use Rattle.shelves.proofs.Determined.{page-determined}
+use Rattle.shelves.proofs.Determined.{page-takes-all, page-determined}
 use Rattle.listers.proofs.list.Kinds as list-kinds
 use Rattle.listers.proofs.list.Reads as list-reads
-use Rattle.listers.proofs.Determined.{list-determined}
+use Rattle.listers.proofs.Determined.{list-takes-all, list-determined}
 use Rattle.tukinraso.proofs.tukinraso_scan.Kinds as tukinraso-scan-kinds
 use Rattle.tukinraso.proofs.tukinraso_scan.Reads as tukinraso-scan-reads
 use Rattle.tukinraso.proofs.tukinraso_size.Kinds as tukinraso-size-kinds
 use Rattle.tukinraso.proofs.tukinraso_size.Reads as tukinraso-size-reads
-use Rattle.tukinraso.proofs.Determined.{tukinraso-scan-determined, tukinraso-size-determined}
+use Rattle.tukinraso.proofs.Determined.{tukinraso-scan-takes-all, tukinraso-scan-determined, tukinraso-size-takes-all, tukinraso-size-determined}
 use Rattle.lines.proofs.read.Kinds as read-kinds
 use Rattle.lines.proofs.read.Reads as read-reads
-use Rattle.lines.proofs.Determined.{read-determined}
+use Rattle.lines.proofs.Determined.{read-takes-all, read-determined}
 use Rattle.cards.proofs.card.Kinds as card-kinds
 use Rattle.cards.proofs.card.Reads as card-reads
-use Rattle.cards.proofs.Determined.{card-determined}
+use Rattle.cards.proofs.Determined.{card-takes-all, card-determined}
+
+-- the contracts of all public functions take every input
+pub record EveryInput : Type 0 where
+  -- powers
+  pub powers : TakesAll powers-kinds.ps powers-reads.Asked
+  pub power : TakesAll power-kinds.ps power-reads.Asked
+  pub lesser : TakesAll lesser-kinds.ps lesser-reads.Asked
+  pub too-large : TakesAll too-large-kinds.ps too-large-reads.Asked
+  pub order-refusal : TakesAll order-refusal-kinds.ps order-refusal-reads.Asked
+  pub word-refusal : TakesAll word-refusal-kinds.ps word-refusal-reads.Asked
+  pub sign : TakesAll sign-kinds.ps sign-reads.Asked
+  -- letters
+  pub is-letter : TakesAll is-letter-kinds.ps is-letter-reads.Asked
+  pub letter : TakesAll letter-kinds.ps letter-reads.Asked
+  pub first-bad : TakesAll first-bad-kinds.ps first-bad-reads.Asked
+  -- words
+  pub pack : TakesAll pack-kinds.ps pack-reads.Asked
+  pub unpack : TakesAll unpack-kinds.ps unpack-reads.Asked
+  -- vigemins
+  pub value : TakesAll value-kinds.ps value-reads.Asked
+  pub vigemin : TakesAll vigemin-kinds.ps vigemin-reads.Asked
+  -- sequences
+  pub examine : TakesAll examine-kinds.ps examine-reads.Asked
+  -- scans
+  pub scan : TakesAll scan-kinds.ps scan-reads.Asked
+  pub scan-bytes : TakesAll scan-bytes-kinds.ps scan-bytes-reads.Asked
+  -- states
+  pub prepare : TakesAll prepare-kinds.ps prepare-reads.Asked
+  -- worksheets
+  pub worksheet : TakesAll worksheet-kinds.ps worksheet-reads.Asked
+  -- sizes
+  pub size : TakesAll size-kinds.ps size-reads.Asked
+  -- counters
+  pub antemers : TakesAll antemers-kinds.ps antemers-reads.Asked
+  -- shelves
+  pub page : TakesAll page-kinds.ps page-reads.Asked
+  -- listers
+  pub list : TakesAll list-kinds.ps list-reads.Asked
+  -- tukinraso
+  pub tukinraso-scan : TakesAll tukinraso-scan-kinds.ps tukinraso-scan-reads.Asked
+  pub tukinraso-size : TakesAll tukinraso-size-kinds.ps tukinraso-size-reads.Asked
+  -- lines
+  pub read : TakesAll read-kinds.ps read-reads.Asked
+  -- cards
+  pub card : TakesAll card-kinds.ps card-reads.Asked
+
+pub every-input : EveryInput
+every-input =
+    record {
+      powers = powers-takes-all;
+      power = power-takes-all;
+      lesser = lesser-takes-all;
+      too-large = too-large-takes-all;
+      order-refusal = order-refusal-takes-all;
+      word-refusal = word-refusal-takes-all;
+      sign = sign-takes-all;
+      is-letter = is-letter-takes-all;
+      letter = letter-takes-all;
+      first-bad = first-bad-takes-all;
+      pack = pack-takes-all;
+      unpack = unpack-takes-all;
+      value = value-takes-all;
+      vigemin = vigemin-takes-all;
+      examine = examine-takes-all;
+      scan = scan-takes-all;
+      scan-bytes = scan-bytes-takes-all;
+      prepare = prepare-takes-all;
+      worksheet = worksheet-takes-all;
+      size = size-takes-all;
+      antemers = antemers-takes-all;
+      page = page-takes-all;
+      list = list-takes-all;
+      tukinraso-scan = tukinraso-scan-takes-all;
+      tukinraso-size = tukinraso-size-takes-all;
+      read = read-takes-all;
+      card = card-takes-all;
+    }
 
 -- the contracts of all public functions determine their outcomes
 pub record EveryContract : Type 0 where

@@ -7,6 +7,7 @@
 use Prim.Native.Nat.{ℕ, zero, suc, _+_, _-_, _*_, _^_, _≤_, _<_, min}
 use mathlib.Core.Bool.{true, false}
 use mathlib.Core.List.{List, [], _∷_, _++_, map, List·Memᴰ}
+use mathlib.Core.Logic.{_↔_}
 use mathlib.Core.Path.{_≡_, refl, sym, ap, subst, _∙_}
 use native.Mathlib.Omega.{arith}
 use borrow.Author.Tests.{ltb-true}
@@ -23,6 +24,9 @@ use Rattle.definitions.specs.Refusals.{Ground, refusal, badLength, badM, badKey
 use Rattle.definitions.specs.Outcomes as outcomes
 use Rattle.definitions.specs.Cards as cards
 use Rattle.laws.specs.Counting.{Above}
+use Rattle.laws.specs.Minima.{length-windows}
+use Rattle.laws.specs.Accepted.{word-accepted, scan-accepted, scan-place-small}
+use Rattle.laws.specs.RoundTrips.{size-small}
 use Rattle.laws.specs.Tests.{and-l, and-r}
 use Rattle.laws.specs.Numbers.{length-text}
 use Rattle.laws.specs.Orders.{keyRanking}
@@ -285,9 +289,12 @@ coded-size f k w (suc n) = (λ e. absurd (omega arith), λ h. refl)
 
 -- the foreign size: the size or, refused, the number of that
 pub foreign-size-refuses : (k m key word : ℕ) (r : _) → ForeignSizes k m key word r
-    → let n = refusal (shelfTests k m key word) in (n ≡ 0 → r ≡ sizeOf k m key word) × (0 < n → r ≡ refusedNumber n 0)
+    → let n = refusal (shelfTests k m key word) in
+    (n ≡ 0 → r ≡ sizeOf k m key word) × (0 < n → r ≡ refusedNumber n 0) × Lowest (shelfTests k m key word) n
 unfolding outcomes.foreignSizeOutcome outcomes.sizeOutcome
-foreign-size-refuses k m key word r h = rw h (coded-size (keyed (wordOf m key)) k (wordOf m word) (refusal (shelfTests k m key word)))
+foreign-size-refuses k m key word r h =
+    let a = coded-size (keyed (wordOf m key)) k (wordOf m word) (refusal (shelfTests k m key word)) in
+    (λ e. h ∙ a .0 e, λ e. h ∙ a .1 e, λ g i t. refusal-lowest (shelfTests k m key word) refl i t)
 
 -- the scan into bytes as one number, under a number of refusal
 coded-scan : (f : Form) (k m : ℕ) (s room : List ℕ) (n : ℕ)
@@ -302,11 +309,42 @@ coded-scan f k m s room (suc n) = (λ e. absurd (omega arith), λ h. (refl, refl
 pub foreign-scan-refuses : (κs : Lfts 2) (k m key : ℕ) (seq room : Lent) (r : _) (last : List ℕ) → ForeignScans κs k m key seq room r last
     → let n = refusal (scanTests k m key (now seq) 4 (now room)) in
     (n ≡ 0 → r ≡ length (windows k (now seq))) × (0 < n → (r ≡ refusedNumber n (placeBeside n (now seq))) × (last ≡ now room))
+    × Lowest (scanTests k m key (now seq) 4 (now room)) n
 unfolding outcomes.foreignScanOutcome outcomes.scanBytesOutcome
 foreign-scan-refuses κs k m key seq room r last h =
     let a = coded-scan (keyed (wordOf m key)) k m (now seq) (now room) (refusal (scanTests k m key (now seq) 4 (now room))) in
-    let answer = ap (λ (o : outcomes.ForeignScanned). o .answer) h in
-    (λ e. answer ∙ a .0 e, λ g. (answer ∙ a .1 g .0, ap (λ (o : outcomes.ForeignScanned). o .room) h ∙ a .1 g .1))
+    let answer = ap (λ (o : outcomes.ForeignScanned). o .answer) h in (
+      λ e. answer ∙ a .0 e,
+      λ e. (answer ∙ a .1 e .0, ap (λ (o : outcomes.ForeignScanned). o .room) h ∙ a .1 e .1),
+      λ g i t. refusal-lowest (scanTests k m key (now seq) 4 (now room)) refl i t,
+    )
+
+-- an answer below 2^63 is no refusal
+small-accepted : (n place r : ℕ) → (0 < n → r ≡ refusedNumber n place) → r < 2 ^ 63 → n ≡ 0
+small-accepted zero place r f h = refl
+small-accepted (suc n) place r f h = absurd (omega (arith, f (omega arith)))
+
+-- the foreign size is refused exactly if its answer is 2^63 or more
+pub foreign-size-told : (k m key word : ℕ) (r : _) → ForeignSizes k m key word r → (r < 2 ^ 63) ↔ (refusal (shelfTests k m key word) ≡ 0)
+foreign-size-told k m key word r h =
+    let a = foreign-size-refuses k m key word r h in (
+      small-accepted (refusal (shelfTests k m key word)) 0 r (a .1),
+      λ z. omega (arith, a .0 z, size-small (word-accepted m k m key word z)),
+    )
+
+-- and so the foreign scan; and a place is below 65,536, so that the number of refusal and the place can be read off
+pub foreign-scan-told : (κs : Lfts 2) (k m key : ℕ) (seq room : Lent) (r : _) (last : List ℕ) → ForeignScans κs k m key seq room r last
+    → let n = refusal (scanTests k m key (now seq) 4 (now room)) in
+    ((r < 2 ^ 63) ↔ (n ≡ 0)) × (placeBeside n (now seq) < 65536)
+foreign-scan-told κs k m key seq room r last h =
+    let a = foreign-scan-refuses κs k m key seq room r last h in
+    let n = refusal (scanTests k m key (now seq) 4 (now room)) in (
+      (
+        small-accepted n (placeBeside n (now seq)) r (λ g. a .1 g .0),
+        λ z. omega (arith, a .0 z, length-windows k (now seq), scan-accepted k m key (now seq) 4 (now room) z .short, scan-accepted k m key (now seq) 4 (now room) z .order .kSome),
+      ),
+      scan-place-small k m key (now seq) 4 (now room),
+    )
 
 -- ---- room beyond what is written
 
@@ -329,7 +367,7 @@ unfolding listers.listAnswer
 list-rest f k w zero room = rest-kept (map val (shelves.shelf f k w)) room (shelves.size f k w) (length-map (shelves.shelf f k w) val)
 list-rest f k w (suc n) room = refl
 
--- unpacking, refused or not, changes no more of the room than it says that it wrote (of the scans Second says it)
+-- unpacking, refused or not, changes no more of the room than it says that it wrote (of the scans ScanIs in Second says it and, refused, scan-refuses)
 pub unpack-spare : (κs : Lfts 1) (word n : ℕ) (room : Lent) (r : _) (last : List ℕ) → Unpacks κs word n room r last
     → drop (r .written) last ≡ drop (r .written) (now room)
 unfolding outcomes.unpackOutcome

@@ -11,20 +11,19 @@ use contract.Lifetimes.{Lfts}
 use denote.Ref.{now}
 use lib.ListN.{length, getD, length-map}
 use Rattle.definitions.specs.Lists.{tabulate, over, total}
-use Rattle.definitions.specs.Words.{Word, Mer, val, word as wordOf, letterOf, same, spelled}
+use Rattle.definitions.specs.Words.{Word, Mer, val, word as wordOf, letterOf, same, spelled, text}
 use Rattle.definitions.specs.Vigemins.{keyed, windows, vigemin, vigeminAt, scan}
 use Rattle.definitions.specs.Shelves.{size, antemers, postmers, antemer, postmer, begins, column}
 use Rattle.definitions.specs.Refusals.{refusal}
-use Rattle.definitions.specs.Outcomes.{Found, Counted, Worked, Scanned, ForeignScanned, sizeAnswer, sizeOutcome, worksheetAnswer, worksheetOutcome, counterAnswer, counterOutcome, scanAnswer, scanOutcome, scanBytesOutcome, foreignScanOutcome, scanGrounds, coded, asBytes}
+use Rattle.definitions.specs.Outcomes.{Packed, Unpacked, Found, Counted, Worked, Scanned, ForeignScanned, sizeAnswer, sizeOutcome, worksheetAnswer, worksheetOutcome, counterAnswer, counterOutcome, scanAnswer, scanOutcome, scanBytesOutcome, foreignScanOutcome, scanGrounds, coded, asBytes}
 use Rattle.laws.specs.Tests.{and-l, and-r, and-i, same-eq, eq-same}
 use Rattle.laws.specs.Numbers.{four-pos, number-lt, digits-below, digits-number, length-digits}
 use Rattle.laws.specs.Minima.{length-windows, vigemin-mer}
 use Rattle.laws.specs.Scans.{length-scan, scan-inside, scan-least, scan-leftmost}
 use Rattle.laws.specs.Split.{column-at, column-above}
-use Rattle.laws.specs.Accepted.{ShelfAccepted, VigeminAccepted, CounterAccepted, ScanAccepted, accepted-word, accepted-counter, accepted-scan, size-refusal, size-count}
-use Rattle.laws.specs.RoundTrips.{vigemin-outcome, counter-row}
-use Rattle.sizes.proofs.Sizes.{worksheet-size}
-use Rattle.demands.specs.Contracts.{Lent, Finds, Scans, ScansBytes, Works, Sizes, Counts, ForeignScans, ForeignSizes}
+use Rattle.laws.specs.Accepted.{PackAccepted, UnpackAccepted, ShelfAccepted, VigeminAccepted, CounterAccepted, ScanAccepted, accepted-word, accepted-counter, accepted-scan, size-refusal, size-count}
+use Rattle.laws.specs.RoundTrips.{pack-outcome, unpack-outcome, vigemin-outcome, counter-row, worksheet-size}
+use Rattle.demands.specs.Contracts.{Lent, Packs, Unpacks, Finds, Scans, ScansBytes, Works, Sizes, Counts, ForeignScans, ForeignSizes}
 use Rattle.demands.specs.Meanings.{merAt, keyedNumber, VigeminAt, Vigemin, Antemer, Postmer, Number, vigemin-means, means-vigemin, antemer-means, postmer-means, number-filter}
 use Rattle.demands.specs.First.{foreign-size-refuses}
 
@@ -237,3 +236,18 @@ module _ (κs : Lfts 2) {k m key : ℕ} (seq room : Lent) where
       let answer : r ≡ o .windows = ap (λ (x : ForeignScanned). x .answer) h ∙ ap (λ (n : ℕ). coded n (o .place) (o .windows)) (b .0) in
       let same : last ≡ o .room = ap (λ (x : ForeignScanned). x .room) h in
       rw (answer, same) (b .1)
+
+-- ---- packing and unpacking
+
+-- whatever packing may answer is the number of the word that the text spells
+pub pack-right : (κs : Lfts 1) (t : Lent) → PackAccepted (now t) → (r : _) → Packs κs t r → (r .refusal ≡ 0) × (r .word ≡ val (spelled (now t)))
+pack-right κs t a r h =
+    let e = h ∙ pack-outcome a in
+    (ap (λ (o : Packed). o .refusal) e, ap (λ (o : Packed). o .word) e)
+
+-- whatever unpacking may answer, and leave in the room: as many letters as were asked for, and at the front of the room the word in capitals
+pub unpack-right : (κs : Lfts 1) (word n : ℕ) (room : Lent) → UnpackAccepted word n (now room) → (r : _) (last : List ℕ) → Unpacks κs word n room r last
+    → (r .refusal ≡ 0) × (r .written ≡ n) × (last ≡ over (text (wordOf n word)) (now room))
+unpack-right κs word n room a r last h =
+    let e = h ∙ unpack-outcome a in
+    (ap (λ (o : Unpacked). o .refusal) e, ap (λ (o : Unpacked). o .written) e, ap (λ (o : Unpacked). o .room) e)

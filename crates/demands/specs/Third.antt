@@ -3,25 +3,25 @@
 -- shelf. It is said of whatever the contracts of `page`, `size` and `vigemin` allow, for every k from 1 to 31, every m from 1 to k, every key and
 -- word below 4^m.
 -- Assumes nothing.
-use Prim.Native.Nat.{ℕ, _+_, _^_, _≤_, _<_}
+use Prim.Native.Nat.{ℕ, _+_, _-_, _^_, _≤_, _<_, min}
 use mathlib.Core.List.{List, [], _∷_, _++_, map, List·Memᴰ, Memᴰ·map, Memᴰ·of-map}
 use mathlib.Core.Logic.{_↔_}
 use mathlib.Core.Path.{_≡_, refl, sym, ap, ap₂, subst, _∙_}
 use native.Mathlib.Omega.{arith}
 use contract.Lifetimes.{Lfts}
 use denote.Ref.{now}
-use lib.ListN.{length, getD, take, drop, length-map}
+use lib.ListN.{length, getD, take, length-map}
 use lib.Seq.{take-at}
 use Rattle.definitions.specs.Lists.{over}
 use Rattle.definitions.specs.Words.{Word, Mer, val, word as wordOf}
 use Rattle.definitions.specs.Vigemins.{keyed, vigeminAt}
-use Rattle.definitions.specs.Shelves.{shelf, size}
+use Rattle.definitions.specs.Shelves.{shelf, size, page}
 use Rattle.definitions.specs.Outcomes.{Paged, pageOutcome}
 use Rattle.laws.specs.Counting.{Increasing, increasing-once}
 use Rattle.laws.specs.Numbers.{four-pos, digits-below, digits-number, length-digits, number-digits-lt}
 use Rattle.laws.specs.Catalogue.{shelf-holds, shelf-increasing}
 use Rattle.laws.specs.Accepted.{ShelfAccepted}
-use Rattle.laws.specs.Listings.{Accepted, handed, handedOut, stoppedAt, RoomForOne, pages-served, pages-shelf, pages-reach, some-room}
+use Rattle.laws.specs.Listings.{Accepted, handed, roomOf, page-outcome, page-written, page-handed, handedOut, stoppedAt, RoomForOne, pages-served, pages-shelf, pages-reach, some-room}
 use Rattle.listers.specs.Answers.{Listed, listAnswer, listOutcome}
 use Rattle.demands.specs.Contracts.{Lent, Answer, Finds, Sizes, Pages, Lists}
 use Rattle.demands.specs.Meanings.{VigeminAt, Vigemin, vigemin-means, means-vigemin, vigemin-one}
@@ -82,7 +82,8 @@ module _ (κs : Lfts 1) (k m key word : ℕ) where
   Served [] = Unit {0}
   Served (c ∷ calls) = (c .answer .refusal ≡ 0) × Served calls
 
-  abbrev rooms : List (Call κs) → List (List ℕ)
+  -- the rooms that were lent
+  abbrev pub rooms : List (Call κs) → List (List ℕ)
   rooms calls = map (λ (c : Call κs). now (c .room)) calls
 
   -- they are the outcomes of pages in a row
@@ -115,14 +116,19 @@ module _ {k m key word : ℕ} (a : ShelfAccepted k m key word) where
     pub pages-accepted : Served κs k m key word calls
     pages-accepted = served κs k m key word 0 calls h (pages-served a 0 (rooms κs k m key word calls) (omega arith))
 
-    -- as many as there are k-mers reach the size
-    pub pages-end : s .count ≤ length calls → stopOf κs k m key word 0 calls ≡ s .count
+    -- where their rooms have together as many entries as there are k-mers, they reach the size
+    pub pages-end : s .count ≤ roomOf (rooms κs k m key word calls) → stopOf κs k m key word 0 calls ≡ s .count
     pages-end e =
+        stopped-at κs k m key word 0 calls h
+        ∙ pages-reach a (rooms κs k m key word calls) (omega (arith, e, size-defined a s g))
+        ∙ sym (size-defined a s g)
+
+    -- as each has room for at least one, as many calls as there are k-mers are enough
+    pub pages-enough : s .count ≤ length calls → stopOf κs k m key word 0 calls ≡ s .count
+    pages-enough e =
         let rs = rooms κs k m key word calls in
         let many : length rs ≡ length calls = length-map calls (λ (c : Call κs). now (c .room)) in
-        stopped-at κs k m key word 0 calls h
-        ∙ pages-reach a rs (omega (arith, size-defined a s g, many, some-room rs (room-for-one κs k m key word 0 calls h)))
-        ∙ sym (size-defined a s g)
+        pages-end (omega (arith, e, many, some-room rs (room-for-one κs k m key word 0 calls h)))
 
     module _ (e : stopOf κs k m key word 0 calls ≡ s .count) where
       whole : pagesOf κs k m key word calls ≡ map val (shelf (keyed (wordOf m key)) k (wordOf m word))
@@ -174,3 +180,18 @@ module _ {k m key word : ℕ} (a : ShelfAccepted k m key word) where
       let front : take (r .written) last ≡ map val (shelf f k w) =
       ap₂ (λ (n : ℕ) (l : List ℕ). take n l) written held ∙ take-at (map val (shelf f k w)) _ (size f k w) (length-map (shelf f k w) val) in
       (rw front (shelf-means k (wordOf m key) w (fits a)), written ∙ sym (size-defined a s g), rw front held)
+
+  -- one page, from a place of the shelf or from its end: it is served, writes the smaller of its room and of what is left, and these are the k-mers
+  -- of the places from there on
+  pub page-right : (κs : Lfts 1) (start : ℕ) (room : Lent) (r : _) (last : List ℕ) → Pages κs k m key word start room r last
+      → (s : _) → Sizes k m key word s → start ≤ s .count
+      → (r .refusal ≡ 0) × (r .written ≡ min (length (now room)) (s .count - start))
+      × (take (r .written) last ≡ map val (page (keyed (wordOf m key)) k (wordOf m word) start (length (now room))))
+  page-right κs start room r last h s g e =
+      let f = keyed (wordOf m key) in
+      let w = wordOf m word in
+      let starts : start ≤ size f k w = omega (arith, e, size-defined a s g) in (
+        ap (λ (o : Paged). o .refusal) (h ∙ page-outcome a start (now room) starts),
+        ap (λ (o : Paged). o .written) h ∙ page-written a start (now room) starts ∙ ap (λ (n : ℕ). min (length (now room)) (n - start)) (sym (size-defined a s g)),
+        ap handed h ∙ page-handed a start (now room) starts,
+      )

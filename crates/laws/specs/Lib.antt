@@ -18,12 +18,12 @@
 -- Rules, RulesHold          document 01's R, Σ and T, and that its rule holds
 -- ByPrefix, Antemers, Postmers   each of document 01's rules, by name
 -- Print                     four errors of the printed rules, each with a computed case
--- Refusals                  the refusal given is met, and the lowest where the numbers increase
+-- Refusals                  the refusal given is met, and the lowest where no number is below one before it
 -- Accepted                  what holds of the inputs of an operation exactly if it refuses nothing
 -- RoundTrips                packing and unpacking lead back to each other; a scan agrees with the vigemin of each window, and the plain
---                           counter with the worksheet
+--                           counter and the size with the worksheet
 -- Listings                  pages taken one after the other are the shelf
--- Contracts                 what a contract allows, and when it determines the outcome
+-- Contracts                 when a contract takes every input, what it allows, and when it determines the outcome
 -- Cards                     when a line is well formed, and how long it is then; the k-mers that are printed
 pub mod Tests
 pub mod Filters

@@ -1,24 +1,27 @@
 -- Outcomes of operations that lead back to each other or agree: packing and unpacking, a scan and the vigemin of each of its windows, the
--- plain counter and the worksheet.
+-- plain counter and the worksheet, the worksheet and the size.
 -- Assumes nothing.
-use Prim.Native.Nat.{ℕ, suc, _+_, _-_, _^_, _≤_, _<_}
+use Prim.Native.Nat.{ℕ, suc, _+_, _-_, _*_, _^_, _≤_, _<_}
 use mathlib.Core.Bool.{true}
 use mathlib.Core.List.{List}
-use mathlib.Core.Path.{_≡_, refl, sym, ap, _∙_}
+use mathlib.Core.Path.{_≡_, refl, sym, ap, ap₂, _∙_}
+use native.Mathlib.Nat.{pow-le-pow-right}
 use native.Mathlib.Omega.{arith}
 use lib.ListN.{length, getD, take, drop, length-map, List·getD-append}
 use lib.Seq.{take-at}
-use Rattle.definitions.specs.Lists.{all, over}
-use Rattle.definitions.specs.Words.{Letters, val, word, letterOf, isLetter, spelled, text}
+use Rattle.definitions.specs.Lists.{all, tabulate, over, total}
+use Rattle.definitions.specs.Words.{Letters, val, word, same, letterOf, isLetter, spelled, text}
 use Rattle.definitions.specs.Vigemins.{Form, keyed, windows, vigeminAt, vigemin, scan}
-use Rattle.definitions.specs.Shelves.{antemers}
+use Rattle.definitions.specs.Shelves.{size, antemers, postmers, column}
 use Rattle.definitions.specs.Refusals.{refusal}
-use Rattle.definitions.specs.Outcomes.{Packed, packAnswer, packOutcome, unpackGrounds, unpackAnswer, unpackOutcome, vigeminAnswer, vigeminOutcome, worksheetAnswer, worksheetOutcome, counterGrounds, counterAnswer, counterOutcome, scanGrounds, scanAnswer, scanOutcome}
-use Rattle.laws.specs.Numbers.{four-pos, digits-below, number-digits-lt, digits-number, spelled-text, text-spelled, spelled-letters, text-letters, length-text, spelled-small}
+use Rattle.definitions.specs.Outcomes.{Packed, Worked, shelfGrounds, packAnswer, packOutcome, unpackGrounds, unpackAnswer, unpackOutcome, vigeminAnswer, vigeminOutcome, worksheetAnswer, worksheetOutcome, counterGrounds, counterAnswer, counterOutcome, scanGrounds, scanAnswer, scanOutcome}
+use Rattle.laws.specs.Numbers.{four-pos, digits-below, length-digits, number-digits-lt, digits-number, spelled-text, text-spelled, spelled-letters, text-letters, length-text, spelled-small}
 use Rattle.laws.specs.Minima.{length-stretch, all-stretch, map-stretch, length-windows}
-use Rattle.laws.specs.Split.{column-at}
+use Rattle.laws.specs.Filters.{tabulate-agree}
+use Rattle.laws.specs.Counting.{count-le}
+use Rattle.laws.specs.Split.{productSum, column-at, keyed-size-sum}
 use Rattle.laws.specs.Scans.{length-scan, scan-at, scan-inside, scan-word}
-use Rattle.laws.specs.Accepted.{PackAccepted, pack-accepted, accepted-pack, UnpackAccepted, unpack-accepted, accepted-unpack, VigeminAccepted, accepted-word, counter-accepted, accepted-counter, counterAnswer-refusal, ScanAccepted, scan-accepted, accepted-scan, pack-refusal, unpackAnswer-refusal, scanAnswer-refusal}
+use Rattle.laws.specs.Accepted.{ShelfAccepted, word-accepted, PackAccepted, pack-accepted, accepted-pack, UnpackAccepted, unpack-accepted, accepted-unpack, VigeminAccepted, accepted-word, counter-accepted, accepted-counter, counterAnswer-refusal, ScanAccepted, scan-accepted, accepted-scan, pack-refusal, unpackAnswer-refusal, scanAnswer-refusal}
 
 -- ---- what is answered where nothing is refused
 
@@ -177,3 +180,42 @@ counter-row k m key w z =
     let count = antemers (keyed (word m key)) (word m w) in
     rw (accepted-counter a, accepted-word (a .shelf))
     (sym (column-at k m count (k - m) (omega (arith, order .mFits)) (omega (arith, order .kFew, order .mSome, order .mFits))))
+
+-- ---- the size and the worksheet
+
+module _ {k m key w : ℕ} (a : ShelfAccepted k m key w) where
+  -- no more k-mers stand on a shelf than there are
+  pub size-small : size (keyed (word m key)) k (word m w) ≤ 4 ^ 31
+  size-small =
+      let few : k ≤ 31 = a .order .kFew in
+      let most : 4 ^ k ≤ 4 ^ 31 = pow-le-pow-right four-pos few in
+      omega (arith, count-le (λ x. same (vigemin (keyed (word m key)) (length (word m w)) x) (word m w)) k)
+
+  -- the sum of products over its columns is the size
+  products-size : {before after : List ℕ} → before ≡ column k m (antemers (keyed (word m key)) (word m w))
+      → after ≡ column k m (postmers (keyed (word m key)) (word m w)) → productSum (k - m) before after (suc (k - m)) ≡ size (keyed (word m key)) k (word m w)
+  products-size {before} {after} e f =
+      ap total
+      (tabulate-agree (suc (k - m))
+      (λ i h. ap₂ (λ (x y : ℕ). x * y)
+      (ap (λ (l : List ℕ). getD l (k - m - i) 0) e ∙ column-at k m (antemers (keyed (word m key)) (word m w)) (k - m - i) (omega (arith, fits)) (omega (arith, few)))
+      (ap (λ (l : List ℕ). getD l i 0) f ∙ column-at k m (postmers (keyed (word m key)) (word m w)) i (omega (arith, fits)) (omega (arith, few)))))
+      ∙ sym (keyed-size-sum (word m key) (word m w) (digits-below four-pos m key) (digits-below four-pos m w) (rw long (a .order .mSome)) k (rw long fits)
+      ∙ ap (λ (n : ℕ). total (tabulate (λ i. antemers (keyed (word m key)) (word m w) (k - n - i) * postmers (keyed (word m key)) (word m w) i) (suc (k - n)))) long)
+    where
+      long : length (word m w) ≡ m
+      long = length-digits 4 m w
+
+      fits : m ≤ k
+      fits = a .order .mFits
+
+      few : k - m ≤ 30
+      few = omega (arith, a .order .kFew, a .order .mSome)
+
+-- the sum of products over a worksheet is the size
+pub worksheet-size : (k m key w : ℕ) {o : Worked} → o ≡ worksheetOutcome k m key w → refusal (shelfGrounds k m key w) ≡ 0
+    → productSum (k - m) (o .antemers) (o .postmers) (suc (k - m)) ≡ size (keyed (word m key)) k (word m w)
+unfolding worksheetOutcome worksheetAnswer
+worksheet-size k m key w e z =
+    let worked = e ∙ ap (λ (r : ℕ). worksheetAnswer r (keyed (word m key)) k m (word m w)) z in
+    products-size (word-accepted m k m key w z) (ap (λ (x : Worked). x .antemers) worked) (ap (λ (x : Worked). x .postmers) worked)

@@ -335,8 +335,8 @@ module _ (ρ : Ranking) (one : OneToOne ρ) (w : Word) (hw : Letters w) (final :
           ∙ ap₂ (λ (x y : Bool). x || (ltb i (length w) && y)) (sym (row-hits i r h free)) (le-ltb (ρ i (getD w i 0)) (ρ i (getD w i 0)) (omega arith))
           ∙ ap (λ (x : Bool). row (i + suc r) || x) (and-false (ltb i (length w))) ∙ or-false (row (i + suc r))
 
--- a sum over the letters
-total-letters : (f g : ℕ → ℕ) → ((b : ℕ) → b < 4 → f b ≡ g b) → total (map f letters) ≡ total (map g letters)
+-- functions that agree at the letters have one sum over them
+pub total-letters : (f g : ℕ → ℕ) → ((b : ℕ) → b < 4 → f b ≡ g b) → total (map f letters) ≡ total (map g letters)
 total-letters f g h = ap total (map-agree f g letters (λ b m. h b (letters-lt m)))
 
 -- ---- the rule

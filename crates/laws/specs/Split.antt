@@ -32,6 +32,10 @@ column-above k m count a h few = tabulate-at (λ i. row (leb (m + i) k) count i)
 
 -- ---- the sum
 
+-- the sum over the first so many rows a of the antemers in row n − a times the postmers in row a
+abbrev pub productSum : ℕ → List ℕ → List ℕ → ℕ → ℕ
+productSum n before after count = total (tabulate (λ a. getD before (n - a) 0 * getD after a 0) count)
+
 -- over the first n rows a, the antemers in row k−m−a times the postmers in row a
 abbrev pub rowsSum : Form → Word → ℕ → ℕ → ℕ
 rowsSum f w k n = total (tabulate (λ a. antemers f w (k - length w - a) * postmers f w a) n)

@@ -2,7 +2,7 @@
 --
 -- Numerals      the number that a text spells
 -- Parts         when an input, and when three texts, are a line
--- Determined    the contracts determine the outcomes
+-- Determined    the contracts take every input and determine the outcomes
 pub mod Numerals
 pub mod Parts
 pub mod Determined

@@ -1,4 +1,4 @@
-// A whole shelf, listed by pages: demand 3 of running code. Assumes nothing.
+// A whole shelf, listed by pages. Assumes nothing.
 ghost use mathlib.Core.Path.{_≡_};
 ghost use mathlib.Core.List.{map};
 ghost use Rattle.definitions.specs.Lists.{over};

@@ -1,2 +1,2 @@
--- Determined    the contracts determine the outcomes
+-- Determined    the contracts take every input and determine the outcomes
 pub mod Determined

@@ -4,7 +4,7 @@
 -- Letters       a sequence that is read: its values, the m-mer that ends in a letter, the position for a window
 -- Windows       a window that was read, and the next one
 -- Scans         the answer of a scan, for any entries that stand for the positions
--- Determined    the contracts determine the outcomes
+-- Determined    the contracts take every input and determine the outcomes
 pub mod Blocks
 pub mod Letters
 pub mod Windows

@@ -1,6 +1,2 @@
--- Laws that several proofs cite.
---
--- Sizes         the size from the columns of a worksheet
--- Determined    the contract determines the outcome
-pub mod Sizes
+-- Determined    the contract takes every input and determines the outcome
 pub mod Determined

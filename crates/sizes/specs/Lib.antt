@@ -1,4 +1,4 @@
--- What the contracts of `sizes` speak of, beside `definitions`.
+-- What the contracts of `sizes` speak of, beside `definitions` and `laws`.
 --
--- Answers       the sum of products, and what the size answered
+-- Answers       what the size answered, as an outcome
 pub mod Answers

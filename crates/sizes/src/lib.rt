@@ -2,7 +2,8 @@
 ghost use mathlib.Core.Path.{_≡_};
 ghost use Prim.Native.Nat.{suc, _^_, _≤_};
 ghost use Rattle.definitions.specs.Outcomes.{sizeOutcome};
-ghost use Rattle.sizes.specs.Answers.{productSum, counted};
+ghost use Rattle.laws.specs.Split.{productSum};
+ghost use Rattle.sizes.specs.Answers.{counted};
 
 // The sum over a of the antemers in row n - a times the postmers in row a.
 fn products(n: u64, sheet: worksheets::Sheet) -> u64

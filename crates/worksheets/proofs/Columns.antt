@@ -18,7 +18,7 @@ use Rattle.laws.specs.Bans.{never}
 use Rattle.laws.specs.Rooms.{Written}
 use Rattle.powers.specs.Powers.{PowersAre}
 use Rattle.worksheets.specs.Columns.{UpTo, leadsTo, AllowedBy, wayOf, sumOf, RowReady, FreeReady, Counts, Countable, CountedBy, Filled, Turn, TurnReady, TurnDone, Turned}
-use Rattle.worksheets.proofs.Laws.{letters-agree}
+use Rattle.laws.specs.RulesHold.{total-letters}
 use Rattle.worksheets.proofs.Rows.{upTo-more, upTo-none}
 
 module _ {W : ℕ → ℕ → ℕ} {m rows start follow live : ℕ} {first next ban : List ℕ} (q : Counts W m rows start follow live first next ban) where
@@ -141,7 +141,7 @@ module _ {W : ℕ → ℕ → ℕ} {m rows start follow live : ℕ} {first next 
                 let o : free ≤ i = ltb-false i free e in
                 let x : i < needed = omega arith in
                 v .outside (suc n + i) (inr (omega arith)) ∙ u .inside i o x
-                ∙ letters-agree (λ b. wayOf (4 * i + b) n allowed ways) _ (λ b f. way-is i b x f)
+                ∙ total-letters (λ b. wayOf (4 * i + b) n allowed ways) _ (λ b f. way-is i b x f)
                 ∙ sym (q .step i n k h)
 
         -- the next row is filled

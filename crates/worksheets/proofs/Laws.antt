@@ -2,16 +2,15 @@
 -- Assumes nothing.
 use Prim.Native.Nat.{ℕ, _+_, _-_, _*_, _≤_, _<_}
 use mathlib.Core.Bool.{Bool, cond}
-use mathlib.Core.List.{List, map}
+use mathlib.Core.List.{List}
 use mathlib.Core.Path.{_≡_, ap, _∙_}
 use native.Mathlib.Omega.{arith}
 use mir.Syntax.{w64}
 use mir.Val.{Fits}
 use borrow.Author.Tests.{lt-ltb, le-ltb}
 use lib.ListN.{length, getD}
-use Rattle.definitions.specs.Lists.{total}
 use Rattle.definitions.specs.Words.{Word, letters}
-use Rattle.laws.specs.Numbers.{letter-lt, row-agree}
+use Rattle.laws.specs.Numbers.{letter-lt}
 use Rattle.laws.specs.Orders.{Ranking}
 use Rattle.laws.specs.Rules.{sign}
 use Rattle.laws.specs.States.{next, next-le}
@@ -20,12 +19,6 @@ use Rattle.states.specs.Grids.{grid-at}
 use Rattle.powers.specs.Signs.{signed-most}
 use Rattle.states.specs.Tables.{markOf, markAt, LettersOf, own-at, own-lt, next-entry, ban-entry, AlphabetsOf}
 use Rattle.worksheets.specs.Columns.{BansOf, MovesOf, NextsOf, StatesOf, entryOf, EntryReady}
-
--- ---- sums
-
--- functions that agree at the letters have one sum over them
-pub letters-agree : (f g : ℕ → ℕ) → ((b : ℕ) → b < 4 → f b ≡ g b) → total (map f letters) ≡ total (map g letters)
-letters-agree f g h = ap total (row-agree {f = f} {g = g} h)
 
 -- ---- numbers that fit
 

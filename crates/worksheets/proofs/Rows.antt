@@ -16,7 +16,7 @@ use Rattle.definitions.specs.Shelves.{row}
 use Rattle.laws.specs.Filters.{length-tabulate, tabulate-at}
 use Rattle.laws.specs.Rooms.{Written}
 use Rattle.worksheets.specs.Columns.{UpTo, wayOf, sumOf, RowReady, WayReady, SumReady, ColumnIs}
-use Rattle.worksheets.proofs.Laws.{letters-agree}
+use Rattle.laws.specs.RulesHold.{total-letters}
 
 -- ---- a row of ways
 
@@ -56,7 +56,7 @@ module _ {lo hi done : ℕ} {allowed old : List ℕ} (q : RowReady lo hi done al
 
     -- their sum is what it was at first
     pub sum-kept : sumOf i done allowed ways ≡ sumOf i done allowed old
-    sum-kept = letters-agree (λ b. wayOf (4 * i + b) done allowed ways) (λ b. wayOf (4 * i + b) done allowed old) way-kept
+    sum-kept = total-letters (λ b. wayOf (4 * i + b) done allowed ways) (λ b. wayOf (4 * i + b) done allowed old) way-kept
 
     -- it is stored inside the ways
     pub sum-inside : suc done + i < length ways

@@ -22,7 +22,8 @@ use Rattle.laws.specs.Tables.{antemerOk, antemerEnd, antemerWays, postmerOk, po
 use Rattle.laws.specs.Bans.{never, ban, ban-le, ban-most, lowBy, lasts, antemer-row, postmer-row, word-allowed}
 use Rattle.states.specs.Tables.{LettersOf, next-entry, ban-entry}
 use Rattle.worksheets.specs.Columns.{BansOf, MovesOf, UpTo, ReachIs, EndsAre, LastsIs, endWays, Counts, AntemersAre, PostmersAre}
-use Rattle.worksheets.proofs.Laws.{letters-agree, moves-bans, own-later}
+use Rattle.laws.specs.RulesHold.{total-letters}
+use Rattle.worksheets.proofs.Laws.{moves-bans, own-later}
 use Rattle.worksheets.proofs.Rows.{upTo-column}
 
 -- the ways to complete a state below so many to an antemer by n letters; from the others there are none
@@ -75,7 +76,7 @@ module _ {ρ : Ranking} {w : Word} {live : ℕ} (c : ReachIs ρ w live) where
   live-row i n h k =
       ap (λ (t : Bool). cond t (antemerWays ρ w i (suc n)) 0) (lt-ltb i live h)
       ∙ antemer-row ρ w i n (omega (arith, c .most)) k
-      ∙ letters-agree (λ b. cond (ltb left (ban w (lowBy ρ w) i b)) (antemerWays ρ w (next w i b) n) 0)
+      ∙ total-letters (λ b. cond (ltb left (ban w (lowBy ρ w) i b)) (antemerWays ρ w (next w i b) n) 0)
       (λ b. cond (ltb left (ban w (lowBy ρ w) i b)) (liveWays ρ w live (next w i b) n) 0) (λ b p. each b (ltb left (ban w (lowBy ρ w) i b)) refl)
     where
       left : ℕ
@@ -130,7 +131,7 @@ module _ {ρ : Ranking} {w : Word} {m : ℕ} {own nexts bans : List ℕ} (s : Mo
       → total (map (λ b. cond (ltb left (ban w (lowBy ρ w) i b)) (W (next w i b) n) 0) letters)
       ≡ total (map (λ b. cond (ltb left′ (getD bans (4 * i + b) 0)) (W (getD nexts (4 * i + b) 0) n) 0) letters)
   by-tables W i n left left′ h e =
-      letters-agree (λ b. cond (ltb left (ban w (lowBy ρ w) i b)) (W (next w i b) n) 0) (λ b. cond (ltb left′ (getD bans (4 * i + b) 0)) (W (getD nexts (4 * i + b) 0) n) 0)
+      total-letters (λ b. cond (ltb left (ban w (lowBy ρ w) i b)) (W (next w i b) n) 0) (λ b. cond (ltb left′ (getD bans (4 * i + b) 0)) (W (getD nexts (4 * i + b) 0) n) 0)
       (λ b k. rw (ban-entry (s .word) ρ (s .links .bans) i b h k, next-entry (s .word) (s .links .nexts) i b h k, e))
 
   module _ (k : ℕ) (h : m ≤ k) (f : k ≤ 31) where

@@ -12,8 +12,7 @@ use borrow.Author.Tests.{leb-true, leb-false}
 use lib.Dec.{leb}
 use lib.ListN.{getD}
 use Rattle.definitions.specs.Lists.{tabulate, total}
-use Rattle.laws.specs.Split.{total-last}
-use Rattle.sizes.specs.Answers.{productSum}
+use Rattle.laws.specs.Split.{productSum, total-last}
 use Rattle.sizes.proofs.products.Statement.{statement}
 use Rattle.sizes.proofs.products.Tie as tie
 

@@ -9,9 +9,9 @@ use Rattle.definitions.specs.Vigemins.{Form, keyed}
 use Rattle.definitions.specs.Shelves.{size as shelfSize}
 use Rattle.definitions.specs.Refusals.{refusal}
 use Rattle.definitions.specs.Outcomes.{Worked, shelfGrounds, worksheetOutcome, sizeAnswer, sizeOutcome}
+use Rattle.laws.specs.Split.{productSum}
+use Rattle.laws.specs.RoundTrips.{size-small, worksheet-size}
 use Rattle.laws.specs.Accepted.{ShelfAccepted, word-accepted, worksheetAnswer-refusal}
-use Rattle.sizes.specs.Answers.{productSum}
-use Rattle.sizes.proofs.Sizes.{size-small, worksheet-size}
 use Rattle.sizes.proofs.size.Statement.{statement}
 use Rattle.sizes.proofs.size.Tie as tie
 
