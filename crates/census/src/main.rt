@@ -1,7 +1,7 @@
 // The census: for every k up to 8 and every m up to k, goes through every k-mer, finds its vigemin by a plain loop, and tallies the words. With that
 // it compares the operations: each vigemin, the size of every word, and some shelves by pages. It prints a line for each k; where something
 // differs it says what, and stops.
-ghost use Prim.Native.Nat.{_≤_, _<_};
+ghost use Prim.Native.Nat.{_+_, _≤_, _<_};
 ghost use lib.ListN.{length};
 use libc::STDOUT_FILENO;
 use std::num::wrapping_add_u64;
@@ -42,9 +42,8 @@ struct Settings {
 fn advance(state: u64) -> u64 {
     let low = state % 4294967296;
     let high = state / 4294967296;
-    let cross = wrapping_add_u64(low * 1481765933, high * 1284865837) % 4294967296;
-    let product = wrapping_add_u64(low * 1284865837, cross * 4294967296);
-    wrapping_add_u64(product, 1442695040888963407)
+    let cross = low * 1481765933 + high * 1284865837;
+    wrapping_add_u64(low * 1284865837 + 1442695040888963407, cross << 32)
 }
 
 // A number below `bound`, of the highest 16 bits of a state.
@@ -94,48 +93,45 @@ fn nth_word(n: u64, words: u64, key: u64, state: u64) -> u64
 
 // ---- what is printed
 
-// Prints a label and a number.
-fn print(label: &[u8], number: u64) {
-    io::write_all(STDOUT_FILENO, label);
-    io::print_decimal(STDOUT_FILENO, number);
+// Prints a byte; for a digit d, the number at place d.
+fn print_byte(byte: u8, numbers: &[u64; 8]) {
+    if (byte < b'0') | (b'7' < byte) {
+        io::write_all(STDOUT_FILENO, &[byte]);
+        return;
+    }
+    io::print_decimal(STDOUT_FILENO, numbers[(byte % 8) as usize]);
 }
 
-// Whether an operation answered what was counted, of a k-mer or a word; where not, says what differs.
-fn same(what: &[u8], s: Settings, of: u64, answered: u64, counted: u64) -> bool {
-    if answered == counted {
+// Prints a text in which each digit d stands for the number at place d.
+fn print(text: &[u8], numbers: &[u64; 8]) {
+    let mut i = 0;
+    while i < text.len() {
+        print_byte(text[i], numbers);
+        i += 1;
+    }
+}
+
+// Whether an operation refused nothing and answered what was counted, of a k-mer or a word; where not, says what differs.
+fn same(what: &[u8], s: Settings, of: u64, refusal: u64, answered: u64, counted: u64) -> bool {
+    if (refusal == 0) & (answered == counted) {
         return true;
     }
-    print(b"differs: k=", s.k);
-    print(b" m=", s.m);
-    print(b" key=", s.key);
-    io::write_all(STDOUT_FILENO, b": ");
+    let numbers = [s.k, s.m, s.key, of, refusal, answered, counted, 0];
     io::write_all(STDOUT_FILENO, what);
-    print(b" of ", of);
-    print(b": ", answered);
-    print(b", counted ", counted);
-    io::write_all(STDOUT_FILENO, b"\n");
+    print(
+        b" differs: k=0 m=1 key=2, of 3: refusal 4, answer 5, counted 6\n",
+        &numbers,
+    );
     false
 }
 
-// What was compared so far, and whether all of it agreed.
-struct Compared {
-    agree: bool,
-    keys: u64,
-    vigemins: u64,
-    sizes: u64,
-    shelves: u64,
-    pages: u64,
-}
-
 // Prints what was compared for a k.
-fn print_line(k: u64, done: Compared) {
-    print(b"k=", k);
-    print(b": ", done.keys);
-    print(b" keys, ", done.vigemins);
-    print(b" vigemins, ", done.sizes);
-    print(b" sizes, and ", done.shelves);
-    print(b" shelves in ", done.pages);
-    io::write_all(STDOUT_FILENO, b" pages agree\n");
+fn print_line(k: u64, keys: u64, vigemins: u64, sizes: u64, pages: u64) {
+    let numbers = [k, keys, vigemins, sizes, keys << 2, pages, 0, 0];
+    print(
+        b"k=0: 1 keys, 2 vigemins, 3 sizes, and 4 shelves in 5 pages agree\n",
+        &numbers,
+    );
 }
 
 // ---- vigemins
@@ -171,27 +167,28 @@ fn plain_vigemin(s: Settings, kmer: u64) -> Mer
     Mer { word, position }
 }
 
-// Whether the operation finds this vigemin of a k-mer.
-fn vigemin_agrees(s: Settings, kmer: u64, mer: Mer) -> bool {
-    let found = vigemins::vigemin(s.k, s.m, s.key, kmer);
-    same(b"refusal of the vigemin", s, kmer, found.refusal, 0)
-        && same(b"vigemin", s, kmer, found.word, mer.word)
-        && same(
-            b"position of the vigemin",
-            s,
-            kmer,
-            found.position,
-            mer.position,
-        )
-}
+// What no word and no k-mer of at most 8 letters is.
+const NONE: u64 = 65536;
 
-// Writes one value all over the room.
-fn fill(value: u64, room: &mut [u64]) {
-    let mut i = 0;
-    while i < room.len() {
-        room[i] = value;
-        i += 1;
+// The word of a k-mer's vigemin; NONE where the operation does not find it.
+fn checked_vigemin(s: Settings, kmer: u64) -> u64
+    ensures { λ r. ⌜ r ≤ 65536 ⌝ }
+{
+    let mer = plain_vigemin(s, kmer);
+    let found = vigemins::vigemin(s.k, s.m, s.key, kmer);
+    let right = same(b"vigemin", s, kmer, found.refusal, found.word, mer.word);
+    let placed = same(
+        b"position of the vigemin",
+        s,
+        kmer,
+        0,
+        found.position,
+        mer.position,
+    );
+    if right & placed {
+        return mer.word;
     }
+    NONE
 }
 
 // Finds the vigemin of every k-mer, and tallies them; whether the operation finds the same.
@@ -199,11 +196,10 @@ fn vigemins_agree(s: Settings, found: &mut Table, tally: &mut Table) -> bool {
     let kmers = power(s.k);
     let mut kmer = 0;
     while kmer < kmers {
-        let mer = plain_vigemin(s, kmer);
-        if !vigemin_agrees(s, kmer, mer) {
+        let word = checked_vigemin(s, kmer);
+        if word == NONE {
             return false;
         }
-        let word = mer.word;
         found[kmer as usize] = word;
         tally[word as usize] = wrapping_add_u64(tally[word as usize], 1);
         kmer += 1;
@@ -213,32 +209,39 @@ fn vigemins_agree(s: Settings, found: &mut Table, tally: &mut Table) -> bool {
 
 // ---- sizes
 
+// Whether the size of a word is what was counted.
+fn size_agrees(s: Settings, word: u64, counted: u64) -> bool {
+    let size = sizes::size(s.k, s.m, s.key, word);
+    same(b"size", s, word, size.refusal, size.count, counted)
+}
+
 // Whether the size of every word is its tally, and the sizes add up to 4^k.
 fn sizes_agree(s: Settings, tally: &Table) -> bool {
     let words = power(s.m);
     let mut sum = 0;
     let mut word = 0;
     while word < words {
-        let size = sizes::size(s.k, s.m, s.key, word);
         let counted = tally[word as usize];
-        if !same(b"refusal of the size", s, word, size.refusal, 0) {
+        if !size_agrees(s, word, counted) {
             return false;
         }
-        if !same(b"size", s, word, size.count, counted) {
-            return false;
-        }
-        sum = wrapping_add_u64(sum, size.count);
+        sum = wrapping_add_u64(sum, counted);
         word += 1;
     }
-    same(b"sum of the sizes", s, words, sum, power(s.k))
+    same(b"sum of the sizes", s, words, 0, sum, power(s.k))
 }
 
 // ---- shelves
 
-// What no k-mer is: a room is filled with it before a page.
-const UNTOUCHED: u64 = u64::MAX;
+// 1 where a test holds, else 0.
+fn one_if(holds: bool) -> usize
+    ensures { λ r. ⌜ r ≤ 1 ⌝ }
+{
+    if holds { 1 } else { 0 }
+}
 
-// Writes the k-mers whose vigemin is a word, in increasing order, and answers how many there are.
+// Writes the k-mers whose vigemin is a word, in increasing order, and answers how many there are. Each k-mer is written at the next place, and the place
+// is passed where the k-mer belongs there.
 fn list(k: u64, word: u64, found: &Table, shelf: &mut Table) -> usize
     ensures { λ r. ⌜ r ≤ 65536 ⌝ }
 {
@@ -246,47 +249,53 @@ fn list(k: u64, word: u64, found: &Table, shelf: &mut Table) -> usize
     let mut n = 0;
     let mut kmer = 0;
     while kmer < kmers {
-        if found[kmer] == word {
-            shelf[n] = kmer as u64;
-            n += 1;
-        }
+        shelf[n] = kmer as u64;
+        n += one_if(found[kmer] == word);
         kmer += 1;
     }
     n
 }
 
-// The first place at which a room does not have what is due at its front, or is touched behind that; its length where there is none.
-fn first_wrong(room: &[u64], due: &[u64]) -> usize {
+// Clears a room up to the first place at which it does not have the k-mers that are due, from a place of the shelf on, or NONE behind them. Answers
+// that place; the room's length where there is none.
+fn cleared(room: &mut [u64], start: usize, due: usize, shelf: &Table) -> usize
+    requires { ⌜ start + due ≤ 65536 ⌝ }
+{
     let mut i = 0;
     while i < room.len() {
-        let right = if i < due.len() { due[i] } else { UNTOUCHED };
+        let right = if i < due { shelf[start + i] } else { NONE };
         if room[i] != right {
             return i;
         }
+        room[i] = NONE;
         i += 1;
     }
     i
 }
 
-// Whether a page from a place on writes what is due.
-fn page_agrees(s: Settings, word: u64, start: u64, due: &[u64], room: &mut [u64]) -> bool {
-    fill(UNTOUCHED, room);
-    let paged = shelves::page(s.k, s.m, s.key, word, start, room);
-    same(b"refusal of a page", s, word, paged.refusal, 0)
-        && same(
-            b"k-mers written by a page",
-            s,
-            word,
-            paged.written,
-            due.len() as u64,
-        )
-        && same(
-            b"right entries of a page",
-            s,
-            word,
-            first_wrong(room, due) as u64,
-            room.len() as u64,
-        )
+// Whether a page from a place of the shelf on writes the k-mers that are due, into a room that has NONE all over, before and after.
+fn page_agrees(
+    s: Settings,
+    word: u64,
+    start: usize,
+    due: usize,
+    shelf: &Table,
+    room: &mut [u64],
+) -> bool
+    requires { ⌜ start + due ≤ 65536 ⌝ }
+{
+    let paged = shelves::page(s.k, s.m, s.key, word, start as u64, room);
+    let right = cleared(room, start, due, shelf) as u64;
+    let entries = room.len() as u64;
+    same(
+        b"number written by a page",
+        s,
+        word,
+        paged.refusal,
+        paged.written,
+        due as u64,
+    )
+        & same(b"right entries of a page", s, word, 0, right, entries)
 }
 
 // The lesser of two numbers.
@@ -298,20 +307,21 @@ fn lesser(a: usize, b: usize) -> usize
 
 // Goes through a shelf by pages, each from where the last one stopped, until none is left and a page writes none. The room takes at least one k-mer,
 // unless the shelf has none. Answers the number of pages; 0 where one differs.
-fn pages_of(s: Settings, word: u64, shelf: &[u64], room: &mut [u64]) -> u64 {
-    let mut at = 0;
+fn pages_of(s: Settings, word: u64, size: usize, shelf: &Table, room: &mut [u64]) -> u64
+    requires { ⌜ size ≤ 65536 ⌝ }
+{
+    let mut start = 0;
     let mut pages = 0;
     loop {
-        let due = lesser(room.len(), shelf.len() - at);
-        let end = at + due;
-        if !page_agrees(s, word, at as u64, &shelf[at..end], room) {
+        let due = lesser(room.len(), size - start);
+        if !page_agrees(s, word, start, due, shelf, room) {
             return 0;
         }
         pages += 1;
         if due == 0 {
             return pages;
         }
-        at = end;
+        start += due;
     }
 }
 
@@ -329,29 +339,15 @@ fn nth_room(n: u64, size: usize) -> usize
     }
 }
 
-// Goes through a shelf of `size` k-mers by pages of at most `each`. Answers the number of pages; 0 where one differs.
-fn room_pages(
-    s: Settings,
-    word: u64,
-    size: usize,
-    each: usize,
-    shelf: &[u64],
-    room: &mut [u64],
-) -> u64
-    requires { ⌜ (size ≤ length (now shelf)) × (each ≤ length (now room)) ⌝ }
-{
-    pages_of(s, word, &shelf[0..size], &mut room[0..each])
-}
-
 // Goes through a shelf of `size` k-mers with each room. Answers the number of pages; 0 where one differs.
-fn shelf_pages(s: Settings, word: u64, size: usize, shelf: &Table, room: &mut Table) -> u64
-    requires { ⌜ size ≤ 65536 ⌝ }
+fn shelf_pages(s: Settings, word: u64, size: usize, shelf: &Table, room: &mut [u64]) -> u64
+    requires { ⌜ (size ≤ 65536) × (65536 ≤ length (now room)) ⌝ }
 {
     let mut pages = 0;
     let mut n = 0;
     while n < 4 {
         let each = nth_room(n, size);
-        let more = room_pages(s, word, size, each, shelf, room);
+        let more = pages_of(s, word, size, shelf, &mut room[0..each]);
         if more == 0 {
             return 0;
         }
@@ -361,134 +357,102 @@ fn shelf_pages(s: Settings, word: u64, size: usize, shelf: &Table, room: &mut Ta
     pages
 }
 
-// Goes through the shelves of four words, by pages.
-fn compare_shelves(
+// Goes through the shelf of a word, by pages. Answers the number of pages; 0 where one differs.
+fn word_pages(s: Settings, word: u64, found: &Table, shelf: &mut Table, room: &mut Table) -> u64 {
+    let size = list(s.k, word, found, shelf);
+    shelf_pages(s, word, size, shelf, room)
+}
+
+// Goes through the shelves of four words, by pages. Answers the number of pages; 0 where one differs.
+fn shelves_pages(
     s: Settings,
     state: u64,
-    mut done: Compared,
     found: &Table,
     shelf: &mut Table,
     room: &mut Table,
-) -> Compared {
+) -> u64 {
     let words = power(s.m);
+    let mut pages = 0;
     let mut n = 0;
     while n < 4 {
         let word = nth_word(n, words, s.key, state);
-        let size = list(s.k, word, found, shelf);
-        let pages = shelf_pages(s, word, size, shelf, room);
-        if pages == 0 {
-            done.agree = false;
-            return done;
+        let more = word_pages(s, word, found, shelf, room);
+        if more == 0 {
+            return 0;
         }
-        done.shelves = wrapping_add_u64(done.shelves, 1);
-        done.pages = wrapping_add_u64(done.pages, pages);
+        pages = wrapping_add_u64(pages, more);
         n += 1;
     }
-    done
+    pages
 }
 
 // ---- the census
 
-// Compares all under one key.
-fn compare_key(
-    s: Settings,
-    state: u64,
-    mut done: Compared,
-    found: &mut Table,
-    tally: &mut Table,
-    shelf: &mut Table,
-    room: &mut Table,
-) -> Compared {
-    fill(0, tally);
-    if !vigemins_agree(s, found, tally) {
-        done.agree = false;
-        return done;
+// Compares all under one key: `found` has the word of each k-mer's vigemin, `tally` the number of k-mers of each word, by the plain loop; then `tally`
+// takes the shelves. Answers the number of pages; 0 where something differs.
+fn compare_key(s: Settings, state: u64) -> u64 {
+    let mut found = [0u64; 65536];
+    let mut tally = [0u64; 65536];
+    if !vigemins_agree(s, &mut found, &mut tally) {
+        return 0;
     }
-    if !sizes_agree(s, tally) {
-        done.agree = false;
-        return done;
+    if !sizes_agree(s, &tally) {
+        return 0;
     }
-    done.keys = wrapping_add_u64(done.keys, 1);
-    done.vigemins = wrapping_add_u64(done.vigemins, power(s.k));
-    done.sizes = wrapping_add_u64(done.sizes, power(s.m));
-    compare_shelves(s, state, done, found, shelf, room)
+    let mut room = [NONE; 65536];
+    shelves_pages(s, state, &found, &mut tally, &mut room)
 }
 
-// Compares all under each key that is tried.
-fn compare_keys(
-    k: u64,
-    m: u64,
-    mut done: Compared,
-    found: &mut Table,
-    tally: &mut Table,
-    shelf: &mut Table,
-    room: &mut Table,
-) -> Compared {
+// Compares all under each key that is tried. Answers the number of pages; 0 where something differs.
+fn compare_keys(k: u64, m: u64) -> u64 {
     let words = power(m);
     let keys = key_count(words);
     // a start of its own for each k and m
     let mut state = power(k) + words;
+    let mut pages = 0;
     let mut n = 0;
     while n < keys {
         state = advance(state);
         let key = nth_key(n, words, state);
         state = advance(state);
-        done = compare_key(
-            Settings { k, m, key },
-            state,
-            done,
-            found,
-            tally,
-            shelf,
-            room,
-        );
-        if !done.agree {
-            return done;
+        let more = compare_key(Settings { k, m, key }, state);
+        if more == 0 {
+            return 0;
         }
+        pages = wrapping_add_u64(pages, more);
         n += 1;
     }
-    done
+    pages
 }
 
 // Compares all for a k, and prints its line; whether all agreed.
-fn compare(
-    k: u64,
-    found: &mut Table,
-    tally: &mut Table,
-    shelf: &mut Table,
-    room: &mut Table,
-) -> bool
+fn compare(k: u64) -> bool
     requires { ⌜ k ≤ 8 ⌝ }
 {
-    let mut done = Compared {
-        agree: true,
-        keys: 0,
-        vigemins: 0,
-        sizes: 0,
-        shelves: 0,
-        pages: 0,
-    };
+    let mut keys = 0;
+    let mut sizes = 0;
+    let mut pages = 0;
     let mut m = 1;
     while m <= k {
-        done = compare_keys(k, m, done, found, tally, shelf, room);
-        if !done.agree {
+        let more = compare_keys(k, m);
+        if more == 0 {
             return false;
         }
+        let words = power(m);
+        let tried = key_count(words);
+        keys = wrapping_add_u64(keys, tried);
+        sizes = wrapping_add_u64(sizes, tried << (2 * m));
+        pages = wrapping_add_u64(pages, more);
         m += 1;
     }
-    print_line(k, done);
+    print_line(k, keys, keys << (2 * k), sizes, pages);
     true
 }
 
-// `found` has the word of each k-mer's vigemin, `tally` the number of k-mers of each word, `shelf` the k-mers of one word, all by the plain loop.
 fn main() {
-    let mut found = [0u64; 65536];
-    let mut tally = [0u64; 65536];
-    let mut shelf = [0u64; 65536];
-    let mut room = [0u64; 65536];
     let mut k = 1;
     while k <= MOST_LETTERS {
-        if !compare(k, &mut found, &mut tally, &mut shelf, &mut room) {
+        if !compare(k) {
             return;
         }
         k += 1;

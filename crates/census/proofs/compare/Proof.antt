@@ -6,10 +6,10 @@ use Rattle.census.proofs.compare.Statement.{statement}
 use Rattle.census.proofs.compare.Tie as tie
 
 abbrev Inv-loop : tie.InvT-loop
-Inv-loop k found₀ tally₀ shelf₀ room₀ done₀ m₀ found tally shelf room done m = m ≤ 9
+Inv-loop k keys₀ sizes₀ pages₀ m₀ keys sizes pages m = m ≤ 9
 
 abbrev μ-loop : tie.MeasureT-loop
-μ-loop k found₀ tally₀ shelf₀ room₀ done₀ m₀ found tally shelf room done m = 9 - m
+μ-loop k keys₀ sizes₀ pages₀ m₀ keys sizes pages m = 9 - m
 
 loop-holds : tie.Need-loop-holds Inv-loop μ-loop
 loop-holds c = search needs
@@ -20,6 +20,27 @@ compare-keys-requires c κs = search needs
 returns : tie.Need-returns Inv-loop μ-loop
 returns c = search needs
 
+power-requires : tie.Need-power-requires Inv-loop μ-loop
+power-requires c κs = search needs
+
+key-count-requires : tie.Need-key-count-requires Inv-loop μ-loop
+key-count-requires c κs = search needs
+
+wrapping-add-u64-requires : tie.Need-wrapping-add-u64-requires Inv-loop μ-loop
+wrapping-add-u64-requires c κs = search needs
+
+mul-wrapping-add-u64 : tie.Need-mul-wrapping-add-u64 Inv-loop μ-loop
+mul-wrapping-add-u64 c = search needs
+
+shl-wrapping-add-u64 : tie.Need-shl-wrapping-add-u64 Inv-loop μ-loop
+shl-wrapping-add-u64 c = search needs
+
+wrapping-add-u64-requires-2 : tie.Need-wrapping-add-u64-requires-2 Inv-loop μ-loop
+wrapping-add-u64-requires-2 c κs = search needs
+
+wrapping-add-u64-requires-3 : tie.Need-wrapping-add-u64-requires-3 Inv-loop μ-loop
+wrapping-add-u64-requires-3 c κs = search needs
+
 add-m : tie.Need-add-m Inv-loop μ-loop
 add-m c = search needs
 
@@ -28,6 +49,12 @@ loop-less c = search needs
 
 loop-again : tie.Need-loop-again Inv-loop μ-loop
 loop-again c = search needs
+
+mul-print-line : tie.Need-mul-print-line Inv-loop μ-loop
+mul-print-line c = search needs
+
+shl-print-line : tie.Need-shl-print-line Inv-loop μ-loop
+shl-print-line c = search needs
 
 print-line-requires : tie.Need-print-line-requires Inv-loop μ-loop
 print-line-requires c κs = search needs
@@ -44,8 +71,17 @@ compare-spec =
     loop-holds
     compare-keys-requires
     returns
+    power-requires
+    key-count-requires
+    wrapping-add-u64-requires
+    mul-wrapping-add-u64
+    shl-wrapping-add-u64
+    wrapping-add-u64-requires-2
+    wrapping-add-u64-requires-3
     add-m
     loop-less
     loop-again
+    mul-print-line
+    shl-print-line
     print-line-requires
     returns-2)

@@ -6,10 +6,10 @@ use Rattle.census.proofs.compare_keys.Statement.{statement}
 use Rattle.census.proofs.compare_keys.Tie as tie
 
 abbrev Inv-loop : tie.InvT-loop
-Inv-loop k m done₀ found₀ tally₀ shelf₀ room₀ words keys state₀ n₀ done found tally shelf room state n = n ≤ keys
+Inv-loop k m words keys state₀ pages₀ n₀ state pages n = n ≤ keys
 
 abbrev μ-loop : tie.MeasureT-loop
-μ-loop k m done₀ found₀ tally₀ shelf₀ room₀ words keys state₀ n₀ done found tally shelf room state n = keys - n
+μ-loop k m words keys state₀ pages₀ n₀ state pages n = keys - n
 
 power-requires : tie.Need-power-requires Inv-loop μ-loop
 power-requires c κs = search needs
@@ -41,6 +41,9 @@ compare-key-requires c κs = search needs
 returns : tie.Need-returns Inv-loop μ-loop
 returns c = search needs
 
+wrapping-add-u64-requires : tie.Need-wrapping-add-u64-requires Inv-loop μ-loop
+wrapping-add-u64-requires c κs = search needs
+
 add-n : tie.Need-add-n Inv-loop μ-loop
 add-n c = search needs
 
@@ -69,6 +72,7 @@ compare-keys-spec =
     advance-requires-2
     compare-key-requires
     returns
+    wrapping-add-u64-requires
     add-n
     loop-less
     loop-again

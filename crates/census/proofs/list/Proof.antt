@@ -1,8 +1,6 @@
--- `census::list` meets its contract. The loop's invariant: at most as many k-mers are written as were looked at. The measure is how many are left.
+-- `census::list` meets its contract. The loop's invariant: at most as many k-mers are passed as were looked at. The measure is how many are left.
 -- Assumes nothing.
 use Prim.Native.Nat.{_-_, _≤_}
-use mathlib.Core.Logic.{⊎-elim}
-use native.Mathlib.Omega.{arith}
 use borrow.Author.Needs.{needs}
 use Rattle.census.proofs.list.Statement.{statement}
 use Rattle.census.proofs.list.Tie as tie
@@ -19,17 +17,20 @@ power-requires c κs = search needs
 loop-holds : tie.Need-loop-holds Inv-loop μ-loop
 loop-holds c = search needs
 
-mul-if1 : tie.Need-mul-if1 Inv-loop μ-loop
-mul-if1 c = search needs
-
-element-copy-out-if1 : tie.Need-element-copy-out-if1 Inv-loop μ-loop
-element-copy-out-if1 c = search needs
-
 mul-shelf : tie.Need-mul-shelf Inv-loop μ-loop
 mul-shelf c = search needs
 
 element-write-shelf : tie.Need-element-write-shelf Inv-loop μ-loop
 element-write-shelf c = search needs
+
+mul-one-if : tie.Need-mul-one-if Inv-loop μ-loop
+mul-one-if c = search needs
+
+element-copy-out-one-if : tie.Need-element-copy-out-one-if Inv-loop μ-loop
+element-copy-out-one-if c = search needs
+
+one-if-requires : tie.Need-one-if-requires Inv-loop μ-loop
+one-if-requires c κs = search needs
 
 add-n : tie.Need-add-n Inv-loop μ-loop
 add-n c = search needs
@@ -41,7 +42,7 @@ loop-less : tie.Need-loop-less Inv-loop μ-loop
 loop-less c = search needs
 
 loop-again : tie.Need-loop-again Inv-loop μ-loop
-loop-again c = ⊎-elim (λ w. omega arith) (λ w. omega arith) (c .if1 .came)
+loop-again c = search needs
 
 returns : tie.Need-returns Inv-loop μ-loop
 returns c = search needs
@@ -54,10 +55,11 @@ list-spec =
     μ-loop
     power-requires
     loop-holds
-    mul-if1
-    element-copy-out-if1
     mul-shelf
     element-write-shelf
+    mul-one-if
+    element-copy-out-one-if
+    one-if-requires
     add-n
     add-kmer
     loop-less

@@ -6,10 +6,10 @@ use Rattle.census.proofs.main.Statement.{statement}
 use Rattle.census.proofs.main.Tie as tie
 
 abbrev Inv-loop : tie.InvT-loop
-Inv-loop found₀ tally₀ shelf₀ room₀ k₀ found tally shelf room k = k ≤ 9
+Inv-loop k₀ k = k ≤ 9
 
 abbrev μ-loop : tie.MeasureT-loop
-μ-loop found₀ tally₀ shelf₀ room₀ k₀ found tally shelf room k = 9 - k
+μ-loop k₀ k = 9 - k
 
 loop-holds : tie.Need-loop-holds Inv-loop μ-loop
 loop-holds c = search needs

@@ -1,5 +1,5 @@
--- `census::pages_of` ends, and takes parts of the shelf. The loop's invariant: at most as many pages were taken as k-mers were handed out, and the
--- room keeps its length. The measure is how many k-mers are left. Assumes nothing.
+-- `census::pages_of` ends, and stays in the shelf. The loop's invariant: at most as many pages were taken as k-mers were handed out, and the room keeps
+-- its length. The measure is how many k-mers are left. Assumes nothing.
 use Prim.Native.Nat.{_-_, _≤_}
 use mathlib.Core.Path.{_≡_}
 use lib.ListN.{length}
@@ -8,10 +8,10 @@ use Rattle.census.proofs.pages_of.Statement.{statement}
 use Rattle.census.proofs.pages_of.Tie as tie
 
 abbrev Inv-loop : tie.InvT-loop
-Inv-loop s word shelf room₀ at₀ pages₀ room at pages = (at ≤ length shelf) × (pages ≤ at) × (length room ≡ length room₀)
+Inv-loop s word size shelf room₀ start₀ pages₀ room start pages = (start ≤ size) × (pages ≤ start) × (length room ≡ length room₀)
 
 abbrev μ-loop : tie.MeasureT-loop
-μ-loop s word shelf room₀ at₀ pages₀ room at pages = length shelf - at
+μ-loop s word size shelf room₀ start₀ pages₀ room start pages = size - start
 
 loop-holds : tie.Need-loop-holds Inv-loop μ-loop
 loop-holds c = search needs
@@ -21,21 +21,6 @@ sub-lesser c = search needs
 
 lesser-requires : tie.Need-lesser-requires Inv-loop μ-loop
 lesser-requires c κs = search needs
-
-add-end : tie.Need-add-end Inv-loop μ-loop
-add-end c = search needs
-
-mul-page-agrees : tie.Need-mul-page-agrees Inv-loop μ-loop
-mul-page-agrees c = search needs
-
-sub-page-agrees : tie.Need-sub-page-agrees Inv-loop μ-loop
-sub-page-agrees c = search needs
-
-part-page-agrees-start : tie.Need-part-page-agrees-start Inv-loop μ-loop
-part-page-agrees-start c = search needs
-
-part-page-agrees-end : tie.Need-part-page-agrees-end Inv-loop μ-loop
-part-page-agrees-end c = search needs
 
 page-agrees-requires : tie.Need-page-agrees-requires Inv-loop μ-loop
 page-agrees-requires c κs = search needs
@@ -55,6 +40,9 @@ same-length-2 c = search needs
 returns-2 : tie.Need-returns-2 Inv-loop μ-loop
 returns-2 c = search needs
 
+add-start : tie.Need-add-start Inv-loop μ-loop
+add-start c = search needs
+
 loop-less : tie.Need-loop-less Inv-loop μ-loop
 loop-less c = search needs
 
@@ -70,16 +58,12 @@ pages-of-spec =
     loop-holds
     sub-lesser
     lesser-requires
-    add-end
-    mul-page-agrees
-    sub-page-agrees
-    part-page-agrees-start
-    part-page-agrees-end
     page-agrees-requires
     same-length
     returns
     add-pages
     same-length-2
     returns-2
+    add-start
     loop-less
     loop-again)

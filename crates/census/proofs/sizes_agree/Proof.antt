@@ -6,10 +6,10 @@ use Rattle.census.proofs.sizes_agree.Statement.{statement}
 use Rattle.census.proofs.sizes_agree.Tie as tie
 
 abbrev Inv-loop : tie.InvT-loop
-Inv-loop s tally words sum₀ word₀ t8 t9 t10 sum word = word ≤ words
+Inv-loop s tally words sum₀ word₀ t7 sum word = word ≤ words
 
 abbrev μ-loop : tie.MeasureT-loop
-μ-loop s tally words sum₀ word₀ t8 t9 t10 sum word = words - word
+μ-loop s tally words sum₀ word₀ t7 sum word = words - word
 
 power-requires : tie.Need-power-requires Inv-loop μ-loop
 power-requires c κs = search needs
@@ -17,32 +17,17 @@ power-requires c κs = search needs
 loop-holds : tie.Need-loop-holds Inv-loop μ-loop
 loop-holds c = search needs
 
-size-requires : tie.Need-size-requires Inv-loop μ-loop
-size-requires c κs = search needs
-
 mul-counted : tie.Need-mul-counted Inv-loop μ-loop
 mul-counted c = search needs
 
 element-copy-out-counted : tie.Need-element-copy-out-counted Inv-loop μ-loop
 element-copy-out-counted c = search needs
 
-slice-aggregate-same : tie.Need-slice-aggregate-same Inv-loop μ-loop
-slice-aggregate-same c = search needs
-
-same-requires : tie.Need-same-requires Inv-loop μ-loop
-same-requires c κs = search needs
+size-agrees-requires : tie.Need-size-agrees-requires Inv-loop μ-loop
+size-agrees-requires c κs = search needs
 
 returns : tie.Need-returns Inv-loop μ-loop
 returns c = search needs
-
-slice-aggregate-same-2 : tie.Need-slice-aggregate-same-2 Inv-loop μ-loop
-slice-aggregate-same-2 c = search needs
-
-same-requires-2 : tie.Need-same-requires-2 Inv-loop μ-loop
-same-requires-2 c κs = search needs
-
-returns-2 : tie.Need-returns-2 Inv-loop μ-loop
-returns-2 c = search needs
 
 wrapping-add-u64-requires : tie.Need-wrapping-add-u64-requires Inv-loop μ-loop
 wrapping-add-u64-requires c κs = search needs
@@ -56,17 +41,17 @@ loop-less c = search needs
 loop-again : tie.Need-loop-again Inv-loop μ-loop
 loop-again c = search needs
 
-slice-aggregate-same-3 : tie.Need-slice-aggregate-same-3 Inv-loop μ-loop
-slice-aggregate-same-3 c = search needs
+slice-aggregate-same : tie.Need-slice-aggregate-same Inv-loop μ-loop
+slice-aggregate-same c = search needs
 
 power-requires-2 : tie.Need-power-requires-2 Inv-loop μ-loop
 power-requires-2 c κs = search needs
 
-same-requires-3 : tie.Need-same-requires-3 Inv-loop μ-loop
-same-requires-3 c κs = search needs
+same-requires : tie.Need-same-requires Inv-loop μ-loop
+same-requires c κs = search needs
 
-returns-3 : tie.Need-returns-3 Inv-loop μ-loop
-returns-3 c = search needs
+returns-2 : tie.Need-returns-2 Inv-loop μ-loop
+returns-2 c = search needs
 
 pub sizes-agree-spec : {M : Type 1} → statement M
 sizes-agree-spec =
@@ -76,20 +61,15 @@ sizes-agree-spec =
     μ-loop
     power-requires
     loop-holds
-    size-requires
     mul-counted
     element-copy-out-counted
-    slice-aggregate-same
-    same-requires
+    size-agrees-requires
     returns
-    slice-aggregate-same-2
-    same-requires-2
-    returns-2
     wrapping-add-u64-requires
     add-word
     loop-less
     loop-again
-    slice-aggregate-same-3
+    slice-aggregate-same
     power-requires-2
-    same-requires-3
-    returns-3)
+    same-requires
+    returns-2)

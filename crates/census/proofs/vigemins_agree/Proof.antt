@@ -17,11 +17,8 @@ power-requires c κs = search needs
 loop-holds : tie.Need-loop-holds Inv-loop μ-loop
 loop-holds c = search needs
 
-plain-vigemin-requires : tie.Need-plain-vigemin-requires Inv-loop μ-loop
-plain-vigemin-requires c κs = search needs
-
-vigemin-agrees-requires : tie.Need-vigemin-agrees-requires Inv-loop μ-loop
-vigemin-agrees-requires c κs = search needs
+checked-vigemin-requires : tie.Need-checked-vigemin-requires Inv-loop μ-loop
+checked-vigemin-requires c κs = search needs
 
 returns : tie.Need-returns Inv-loop μ-loop
 returns c = search needs
@@ -67,8 +64,7 @@ vigemins-agree-spec =
     μ-loop
     power-requires
     loop-holds
-    plain-vigemin-requires
-    vigemin-agrees-requires
+    checked-vigemin-requires
     returns
     mul-found
     element-write-found
