@@ -125,7 +125,7 @@ fn same(what: &[u8], s: Settings, of: u64, refusal: u64, answered: u64, counted:
     false
 }
 
-// Prints what was compared for a k.
+// Prints what was compared for a k; under each key that is four shelves.
 fn print_line(k: u64, keys: u64, vigemins: u64, sizes: u64, pages: u64) {
     let numbers = [k, keys, vigemins, sizes, keys << 2, pages, 0, 0];
     print(
@@ -425,7 +425,7 @@ fn compare_keys(k: u64, m: u64) -> u64 {
     pages
 }
 
-// Compares all for a k, and prints its line; whether all agreed.
+// Compares all for a k, and prints its line; whether all agreed. Under each key there are 4^k vigemins and 4^m sizes.
 fn compare(k: u64) -> bool
     requires { ⌜ k ≤ 8 ⌝ }
 {
