@@ -10,13 +10,11 @@ use mathlib.Core.List.{List, [], _∷_, _++_, map, List·Memᴰ}
 use mathlib.Core.Logic.{_↔_}
 use mathlib.Core.Path.{_≡_, refl, sym, ap, subst, _∙_}
 use native.Mathlib.Omega.{arith}
-use borrow.Author.Tests.{ltb-true}
 use contract.Lifetimes.{Lfts}
 use denote.Ref.{now}
-use lib.Dec.{ltb}
 use lib.ListN.{length, replicate, drop, length-map}
 use lib.Seq.{drop-at}
-use Rattle.definitions.specs.Lists.{all, over}
+use Rattle.definitions.specs.Lists.{over}
 use Rattle.definitions.specs.Words.{Word, val, word as wordOf, text}
 use Rattle.definitions.specs.Vigemins.{Form, keyed, windows}
 use Rattle.definitions.specs.Shelves as shelves
@@ -27,7 +25,6 @@ use Rattle.laws.specs.Counting.{Above}
 use Rattle.laws.specs.Minima.{length-windows}
 use Rattle.laws.specs.Accepted.{word-accepted, scan-accepted, scan-place-small}
 use Rattle.laws.specs.RoundTrips.{size-small}
-use Rattle.laws.specs.Tests.{and-l, and-r}
 use Rattle.laws.specs.Numbers.{length-text}
 use Rattle.laws.specs.Orders.{keyRanking}
 use Rattle.laws.specs.Refusals.{numbers, rising, refusal-met, refusal-zero, refusal-none, refusal-lowest}
@@ -118,10 +115,6 @@ pub record Refuses {Outcome : Type 0} (grounds : List Ground) (beside : ℕ → 
 abbrev pub Lowest : List Ground → ℕ → Type 0
 Lowest grounds number = (g : Ground) → List·Memᴰ g grounds → g .met ≡ true → number ≤ g .number
 
-above-none : (l : List ℕ) → all (ltb 0) l ≡ true → Above 0 l
-above-none [] e = tt
-above-none (n ∷ l) e = (ltb-true 0 n (and-l (ltb 0 n) (all (ltb 0) l) e), above-none l (and-r (ltb 0 n) (all (ltb 0) l) e))
-
 answer-number : {Outcome : Type 0} (numberOf : Outcome → ℕ) (answer beside : ℕ → Outcome) → numberOf (answer 0) ≡ 0
     → ((r : ℕ) → answer (suc r) ≡ beside (suc r)) → ((r : ℕ) → numberOf (beside (suc r)) ≡ suc r) → (r : ℕ) → numberOf (answer r) ≡ r
 answer-number numberOf answer beside none some same zero = none
@@ -135,19 +128,19 @@ answer-beside answer beside some (suc r) h = some r
 module _ {Outcome : Type 0} (numberOf : Outcome → ℕ) (answer : ℕ → Outcome) {beside : ℕ → Outcome} (none : numberOf (answer 0) ≡ 0)
     (some : (r : ℕ) → answer (suc r) ≡ beside (suc r)) (same : (r : ℕ) → numberOf (beside (suc r)) ≡ suc r) where
   -- it is decided by these grounds
-  refuses : {grounds : List Ground} → all (ltb 0) (numbers grounds) ≡ true → {outcome : Outcome} → outcome ≡ answer (refusal grounds)
+  refuses : {grounds : List Ground} → Above 0 (numbers grounds) → {outcome : Outcome} → outcome ≡ answer (refusal grounds)
       → Refuses grounds beside (numberOf outcome) outcome
   refuses {grounds} up e =
       rw (ap numberOf e ∙ answer-number numberOf answer beside none some same (refusal grounds)) (record {
         first = refl;
         met = refusal-met grounds;
         accepted = refusal-zero grounds;
-        unmet = λ z g m. refusal-none grounds (above-none (numbers grounds) up) z m;
+        unmet = λ z g m. refusal-none grounds up z m;
         stands = λ h. e ∙ answer-beside answer beside some (refusal grounds) h;
       })
 
   -- and its number is the lowest, where no number of the list is below one before it
-  refuses-lowest : {grounds : List Ground} → all (ltb 0) (numbers grounds) ≡ true → rising (numbers grounds) ≡ true → {outcome : Outcome}
+  refuses-lowest : {grounds : List Ground} → Above 0 (numbers grounds) → rising (numbers grounds) ≡ true → {outcome : Outcome}
       → outcome ≡ answer (refusal grounds) → Refuses grounds beside (numberOf outcome) outcome × Lowest grounds (numberOf outcome)
   refuses-lowest {grounds} up order e =
       let a = refuses up e in
@@ -161,7 +154,7 @@ pub pack-refuses : (κs : Lfts 1) (text : Lent) (r : _) → Packs κs text r
     × Lowest (packTests (now text)) (r .refusal)
 unfolding outcomes.packOutcome outcomes.packAnswer
 pack-refuses κs text r h =
-    refuses-lowest (λ (o : outcomes.Packed). o .refusal) (λ n. outcomes.packAnswer n (now text)) refl (λ n. refl) (λ n. refl) refl refl h
+    refuses-lowest (λ (o : outcomes.Packed). o .refusal) (λ n. outcomes.packAnswer n (now text)) refl (λ n. refl) (λ n. refl) (omega arith) refl h
 
 -- unpacking
 pub unpack-refuses : (κs : Lfts 1) (word n : ℕ) (room : Lent) (r : _) (last : List ℕ) → Unpacks κs word n room r last
@@ -169,7 +162,7 @@ pub unpack-refuses : (κs : Lfts 1) (word n : ℕ) (room : Lent) (r : _) (last :
     × Lowest (unpackTests word n (now room)) (r .refusal)
 unfolding outcomes.unpackOutcome outcomes.unpackAnswer
 unpack-refuses κs word n room r last h =
-    refuses-lowest (λ (o : outcomes.Unpacked). o .refusal) (λ i. outcomes.unpackAnswer i word n (now room)) refl (λ i. refl) (λ i. refl) refl refl h
+    refuses-lowest (λ (o : outcomes.Unpacked). o .refusal) (λ i. outcomes.unpackAnswer i word n (now room)) refl (λ i. refl) (λ i. refl) (omega arith) refl h
 
 -- the vigemin
 pub vigemin-refuses : (k m key kmer : ℕ) (r : _) → Finds k m key kmer r
@@ -177,7 +170,7 @@ pub vigemin-refuses : (k m key kmer : ℕ) (r : _) → Finds k m key kmer r
     × Lowest (vigeminTests k m key kmer) (r .refusal)
 unfolding outcomes.vigeminOutcome outcomes.vigeminAnswer
 vigemin-refuses k m key kmer r h =
-    refuses-lowest (λ (o : outcomes.Found). o .refusal) (λ n. outcomes.vigeminAnswer n (keyed (wordOf m key)) m (wordOf k kmer)) refl (λ n. refl) (λ n. refl) refl refl h
+    refuses-lowest (λ (o : outcomes.Found). o .refusal) (λ n. outcomes.vigeminAnswer n (keyed (wordOf m key)) m (wordOf k kmer)) refl (λ n. refl) (λ n. refl) (omega arith) refl h
 
 -- the size
 pub size-refuses : (k m key word : ℕ) (r : _) → Sizes k m key word r
@@ -185,7 +178,7 @@ pub size-refuses : (k m key word : ℕ) (r : _) → Sizes k m key word r
     × Lowest (shelfTests k m key word) (r .refusal)
 unfolding outcomes.sizeOutcome outcomes.sizeAnswer
 size-refuses k m key word r h =
-    refuses-lowest (λ (o : outcomes.Counted). o .refusal) (λ n. outcomes.sizeAnswer n (keyed (wordOf m key)) k (wordOf m word)) refl (λ n. refl) (λ n. refl) refl refl h
+    refuses-lowest (λ (o : outcomes.Counted). o .refusal) (λ n. outcomes.sizeAnswer n (keyed (wordOf m key)) k (wordOf m word)) refl (λ n. refl) (λ n. refl) (omega arith) refl h
 
 -- the worksheet
 pub worksheet-refuses : (k m key word : ℕ) (r : _) → Works k m key word r
@@ -193,7 +186,7 @@ pub worksheet-refuses : (k m key word : ℕ) (r : _) → Works k m key word r
     × Lowest (shelfTests k m key word) (r .refusal)
 unfolding outcomes.worksheetOutcome outcomes.worksheetAnswer
 worksheet-refuses k m key word r h =
-    refuses-lowest (λ (o : outcomes.Worked). o .refusal) (λ n. outcomes.worksheetAnswer n (keyed (wordOf m key)) k m (wordOf m word)) refl (λ n. refl) (λ n. refl) refl refl h
+    refuses-lowest (λ (o : outcomes.Worked). o .refusal) (λ n. outcomes.worksheetAnswer n (keyed (wordOf m key)) k m (wordOf m word)) refl (λ n. refl) (λ n. refl) (omega arith) refl h
 
 -- the plain counter
 pub counter-refuses : (k m key word : ℕ) (r : _) → Counts k m key word r
@@ -201,7 +194,7 @@ pub counter-refuses : (k m key word : ℕ) (r : _) → Counts k m key word r
     × Lowest (counterTests k m key word) (r .refusal)
 unfolding outcomes.counterOutcome outcomes.counterAnswer
 counter-refuses k m key word r h =
-    refuses-lowest (λ (o : outcomes.Counted). o .refusal) (λ n. outcomes.counterAnswer n (keyed (wordOf m key)) (k - m) (wordOf m word)) refl (λ n. refl) (λ n. refl) refl refl h
+    refuses-lowest (λ (o : outcomes.Counted). o .refusal) (λ n. outcomes.counterAnswer n (keyed (wordOf m key)) (k - m) (wordOf m word)) refl (λ n. refl) (λ n. refl) (omega arith) refl h
 
 -- a page
 pub page-refuses : (κs : Lfts 1) (k m key word start : ℕ) (room : Lent) (r : _) (last : List ℕ) → Pages κs k m key word start room r last
@@ -209,7 +202,7 @@ pub page-refuses : (κs : Lfts 1) (k m key word start : ℕ) (room : Lent) (r : 
     × Lowest (pageTests k m key word start) (r .refusal)
 unfolding outcomes.pageOutcome outcomes.pageAnswer
 page-refuses κs k m key word start room r last h =
-    refuses-lowest (λ (o : outcomes.Paged). o .refusal) (λ n. outcomes.pageAnswer n (keyed (wordOf m key)) k (wordOf m word) start (now room)) refl (λ n. refl) (λ n. refl) refl refl h
+    refuses-lowest (λ (o : outcomes.Paged). o .refusal) (λ n. outcomes.pageAnswer n (keyed (wordOf m key)) k (wordOf m word) start (now room)) refl (λ n. refl) (λ n. refl) (omega arith) refl h
 
 -- a whole shelf by pages
 pub list-refuses : (κs : Lfts 1) (k m key word each : ℕ) (room : Lent) (r : _) (last : List ℕ) → Lists κs k m key word each room r last
@@ -217,7 +210,7 @@ pub list-refuses : (κs : Lfts 1) (k m key word each : ℕ) (room : Lent) (r : _
     × Lowest (listTests k m key word each (now room)) (r .refusal)
 unfolding listers.listOutcome listers.listAnswer
 list-refuses κs k m key word each room r last h =
-    refuses-lowest (λ (o : listers.Listed). o .refusal) (λ n. listers.listAnswer n (keyed (wordOf m key)) k (wordOf m word) (now room)) refl (λ n. refl) (λ n. refl) refl refl h
+    refuses-lowest (λ (o : listers.Listed). o .refusal) (λ n. listers.listAnswer n (keyed (wordOf m key)) k (wordOf m word) (now room)) refl (λ n. refl) (λ n. refl) (omega arith) refl h
 
 -- the scan
 pub scan-refuses : (κs : Lfts 2) (k m key : ℕ) (seq room : Lent) (r : _) (last : List ℕ) → Scans κs k m key seq room r last
@@ -225,7 +218,7 @@ pub scan-refuses : (κs : Lfts 2) (k m key : ℕ) (seq room : Lent) (r : _) (las
     × Lowest (scanTests k m key (now seq) 1 (now room)) (r .refusal)
 unfolding outcomes.scanOutcome outcomes.scanAnswer
 scan-refuses κs k m key seq room r last h =
-    refuses-lowest (λ (o : outcomes.Scanned). o .refusal) (λ n. outcomes.scanAnswer n (λ ps. ps) (keyed (wordOf m key)) k m (now seq) (now room)) refl (λ n. refl) (λ n. refl) refl refl h
+    refuses-lowest (λ (o : outcomes.Scanned). o .refusal) (λ n. outcomes.scanAnswer n (λ ps. ps) (keyed (wordOf m key)) k m (now seq) (now room)) refl (λ n. refl) (λ n. refl) (omega arith) refl h
 
 -- the scan into bytes
 pub scan-bytes-refuses : (κs : Lfts 2) (k m key : ℕ) (seq room : Lent) (r : _) (last : List ℕ) → ScansBytes κs k m key seq room r last
@@ -233,7 +226,7 @@ pub scan-bytes-refuses : (κs : Lfts 2) (k m key : ℕ) (seq room : Lent) (r : _
     × Lowest (scanTests k m key (now seq) 4 (now room)) (r .refusal)
 unfolding outcomes.scanBytesOutcome outcomes.scanAnswer
 scan-bytes-refuses κs k m key seq room r last h =
-    refuses-lowest (λ (o : outcomes.Scanned). o .refusal) (λ n. outcomes.scanAnswer n outcomes.asBytes (keyed (wordOf m key)) k m (now seq) (now room)) refl (λ n. refl) (λ n. refl) refl refl h
+    refuses-lowest (λ (o : outcomes.Scanned). o .refusal) (λ n. outcomes.scanAnswer n outcomes.asBytes (keyed (wordOf m key)) k m (now seq) (now room)) refl (λ n. refl) (λ n. refl) (omega arith) refl h
 
 -- what is tested before a scan
 pub examine-refuses : (κs : Lfts 1) (k m key : ℕ) (seq : Lent) (takes : ℕ) (r : _) → Examines κs k m key seq takes r
@@ -241,7 +234,7 @@ pub examine-refuses : (κs : Lfts 1) (k m key : ℕ) (seq : Lent) (takes : ℕ) 
     × Lowest (examineTests k m key (now seq) takes) (r .refusal)
 unfolding sequences.examineOutcome sequences.examineAnswer
 examine-refuses κs k m key seq takes r h =
-    refuses-lowest (λ (o : sequences.Examined). o .refusal) (λ n. sequences.examineAnswer n k (now seq)) refl (λ n. refl) (λ n. refl) refl refl h
+    refuses-lowest (λ (o : sequences.Examined). o .refusal) (λ n. sequences.examineAnswer n k (now seq)) refl (λ n. refl) (λ n. refl) (omega arith) refl h
 
 -- the states of a word
 pub prepare-refuses : (k m key word : ℕ) (r : _) → Prepares k m key word r
@@ -249,7 +242,7 @@ pub prepare-refuses : (k m key word : ℕ) (r : _) → Prepares k m key word r
     × Lowest (shelfTests k m key word) (r .refusal)
 unfolding states.prepareOutcome states.prepareAnswer
 prepare-refuses k m key word r h =
-    refuses-lowest (λ (o : states.Prepared). o .refusal) (λ n. states.prepareAnswer n (keyRanking (wordOf m key)) (wordOf m word)) refl (λ n. refl) (λ n. refl) refl refl h
+    refuses-lowest (λ (o : states.Prepared). o .refusal) (λ n. states.prepareAnswer n (keyRanking (wordOf m key)) (wordOf m word)) refl (λ n. refl) (λ n. refl) (omega arith) refl h
 
 -- the line that the shelf printer reads
 pub read-refuses : (κs : Lfts 1) (input : Lent) (r : _) → ReadsLine κs input r
@@ -257,7 +250,7 @@ pub read-refuses : (κs : Lfts 1) (input : Lent) (r : _) → ReadsLine κs input
     × Lowest (lineTests (now input)) (r .refusal)
 unfolding cards.readOutcome cards.readAnswer
 read-refuses κs input r h =
-    refuses-lowest (λ (o : cards.Line). o .refusal) (λ n. cards.readAnswer n (cards.asks (cards.parts (now input)))) refl (λ n. refl) (λ n. refl) refl refl h
+    refuses-lowest (λ (o : cards.Line). o .refusal) (λ n. cards.readAnswer n (cards.asks (cards.parts (now input)))) refl (λ n. refl) (λ n. refl) (omega arith) refl h
 
 -- the line that is printed for a refusal
 abbrev pub refusedLine : ℕ → List ℕ
@@ -270,7 +263,7 @@ unfolding cards.cardOutcome cards.cardText
 card-refuses κs input r h =
     let a = cards.asks (cards.parts (now input)) in
     refuses (λ (o : cards.Printed). o .refusal) (λ n. cards.printedText n (cards.cardText n (keyed (wordOf (a .m) (a .key))) a))
-    refl (λ n. refl) (λ n. refl) refl (h .0)
+    refl (λ n. refl) (λ n. refl) (omega arith) (h .0)
 
 -- ---- the foreign forms
 
