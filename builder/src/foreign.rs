@@ -8,12 +8,14 @@ unsafe extern "C" {
 }
 
 /// The size, or a refusal as a number.
+#[inline]
 pub fn size(k: u64, m: u64, key: u64, word: u64) -> u64 {
     // SAFETY: it takes numbers alone, and any of them.
     unsafe { tukinraso_size(k, m, key, word) }
 }
 
 /// The number of windows, or a refusal as a number.
+#[inline]
 pub fn scan(k: u64, m: u64, key: u64, seq: &[u8], room: &mut [u8]) -> u64 {
     // SAFETY: it takes any numbers, reads so many bytes at `seq`, and reads and writes so many at `room`: both are slices with their
     // lengths, and as one is borrowed mutably they do not overlap. Nothing is kept after the call.

@@ -40,6 +40,7 @@ pub use refusal::Refusal;
 /// // A key and a word of two letters are below 16. Where both are not, the key is refused.
 /// assert_eq!(size(3, 2, 16, 16), Err(Refusal::Key));
 /// ```
+#[inline]
 pub fn size(k: u64, m: u64, key: u64, word: u64) -> Result<u64, Refusal> {
     Refusal::told(foreign::size(k, m, key, word))
 }
@@ -74,6 +75,7 @@ pub fn size(k: u64, m: u64, key: u64, word: u64) -> Result<u64, Refusal> {
 /// assert_eq!(scan(4, 2, 0, b"ACGTACGA", &mut room[..19]), Err(Refusal::Room));
 /// # Ok::<(), Refusal>(())
 /// ```
+#[inline]
 pub fn scan(k: u64, m: u64, key: u64, seq: &[u8], room: &mut [u8]) -> Result<usize, Refusal> {
     let windows = Refusal::told(foreign::scan(k, m, key, seq, room))?;
     Ok(usize::try_from(windows).expect("there are no more windows than letters"))

@@ -54,12 +54,16 @@ impl Refusal {
     /// # Panics
     ///
     /// Where it is neither: then the archive is not the one that this package is for.
+    #[inline]
     pub(crate) fn told(answer: u64) -> Result<u64, Refusal> {
-        if answer < MARK {
-            return Ok(answer);
-        }
+        if answer < MARK { Ok(answer) } else { Err(Refusal::coded(answer)) }
+    }
+
+    /// The refusal that an answer from the mark on tells.
+    #[cold]
+    fn coded(answer: u64) -> Refusal {
         let (number, place) = ((answer - MARK) / NUMBER, (answer % NUMBER) as usize);
-        Err(match (number, place) {
+        match (number, place) {
             (1, 0) => Refusal::K,
             (2, 0) => Refusal::M,
             (3, 0) => Refusal::Key,
@@ -68,7 +72,7 @@ impl Refusal {
             (6, place) => Refusal::Letter { place },
             (7, 0) => Refusal::Room,
             _ => panic!("the archive answered {answer:#x}, which is no answer and no refusal"),
-        })
+        }
     }
 }
 

@@ -2,9 +2,8 @@
 //! the four letters go at once; of the signs R only the j that are equal are kept, each by a link to the next; and one
 //! array, changed in place, holds a table. Where the print errs document 01 is followed.
 
-#![forbid(unsafe_code)]
-
-use crate::sizes::served;
+use crate::sizes::accepted;
+use plain::definitions::Refused;
 
 /// A set of letters: bit b stands for the letter with the code b.
 type Letters = u8;
@@ -31,20 +30,18 @@ const fn special_alphabets() -> [[Letters; 4]; 4] {
 type Part = [u64; 33];
 
 /// The size, each entry of both tables with its loop over j.
-pub fn size(k: u64, m: u64, key: u64, word: u64) -> u64 {
-    served(k, m, key, word, || {
-        let rules = Rules::new(k as usize, m as usize, key, word);
-        rules.with_postmers(&rules.antemers())
-    })
+pub fn size(k: u64, m: u64, key: u64, word: u64) -> Result<u64, Refused> {
+    accepted(k, m, key, word)?;
+    let rules = Rules::new(k as usize, m as usize, key, word);
+    Ok(rules.with_postmers(&rules.antemers()))
 }
 
 /// The size, with the loops over j for antemers done once for each i, as Lemma 9 of the source allows; those for
 /// postmers stay, as they depend on the length.
-pub fn prepared_size(k: u64, m: u64, key: u64, word: u64) -> u64 {
-    served(k, m, key, word, || {
-        let rules = Rules::new(k as usize, m as usize, key, word);
-        rules.with_postmers(&rules.prepared_antemers())
-    })
+pub fn prepared_size(k: u64, m: u64, key: u64, word: u64) -> Result<u64, Refused> {
+    accepted(k, m, key, word)?;
+    let rules = Rules::new(k as usize, m as usize, key, word);
+    Ok(rules.with_postmers(&rules.prepared_antemers()))
 }
 
 /// What the rules ask of the word and the key. No index passes 31, and `& 31` tells the compiler so.
@@ -169,10 +166,10 @@ impl Rules {
             let mut shared = i;
             while open != 0 && shared > 0 {
                 shared = self.fewer(shared);
-                if open & self.letter[shared] != 0 {
-                    if let Some(place) = places.next() {
-                        *place = shared as u8 + 1;
-                    }
+                if open & self.letter[shared] != 0
+                    && let Some(place) = places.next()
+                {
+                    *place = shared as u8 + 1;
                 }
                 open &= self.above[shared];
             }

@@ -3,9 +3,11 @@
 //! through the j: 4·k·m² steps at most. Letters and places count from 1, as there. Where the print errs document 01 is
 //! followed.
 
-#![forbid(unsafe_code)]
+// Indices are those of the source.
+#![allow(clippy::needless_range_loop)]
 
-use crate::sizes::served;
+use crate::sizes::accepted;
+use plain::definitions::Refused;
 use std::cell::RefCell;
 
 /// Numbers by the length of a word, and then by how many letters it shares with w at least.
@@ -25,10 +27,9 @@ thread_local! {
 }
 
 /// The size, or the answer of the first refusal that applies.
-pub fn size(k: u64, m: u64, key: u64, word: u64) -> u64 {
-    served(k, m, key, word, || {
-        TABLES.with_borrow_mut(|tables| Rules::new(m as usize, key, word).size(k as usize, tables))
-    })
+pub fn size(k: u64, m: u64, key: u64, word: u64) -> Result<u64, Refused> {
+    accepted(k, m, key, word)?;
+    Ok(TABLES.with_borrow_mut(|tables| Rules::new(m as usize, key, word).size(k as usize, tables)))
 }
 
 /// What the rules ask of the word and the key.
@@ -97,7 +98,15 @@ impl Rules {
     /// up to `last` at which it is not above, where it must be equal. `first_counts` tells whether the m-mer that starts with the
     /// letter exists.
     #[inline(always)]
-    fn exactly(&self, length: usize, i: usize, last: usize, first_counts: bool, signs: &[[i8; 32]; 32], from: &Table) -> u64 {
+    fn exactly(
+        &self,
+        length: usize,
+        i: usize,
+        last: usize,
+        first_counts: bool,
+        signs: &[[i8; 32]; 32],
+        from: &Table,
+    ) -> u64 {
         let mut sum = 0;
         for b in 0..4u8 {
             if (self.above[i + 1] >> b) & 1 == 0 {

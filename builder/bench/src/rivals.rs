@@ -1,15 +1,10 @@
-//! Scans in safe Rust: by block minima in one run, in one run tuned, and in two runs side by side; by a monotone deque;
-//! and the plain one the others are checked against.
+//! Scans in safe Rust: by block minima in one run, in one run tuned, and in two runs side by side; by a monotone deque; and by looking each window
+//! through.
 
-#![forbid(unsafe_code)]
+use plain::definitions::Refused;
 
 /// The longest sequence served.
 const LONGEST: usize = 65_536;
-
-/// The answer of a refused call.
-fn refused(refusal: u64, place: usize) -> u64 {
-    (1 << 63) + 65_536 * refusal + place as u64
-}
 
 /// The digit of a letter: A 0, C 1, G 2, T 3.
 fn digit(letter: u8) -> u64 {
@@ -20,53 +15,53 @@ fn digit(letter: u8) -> u64 {
 /// can take many bytes at a time; the place is looked for only where there is one.
 fn first_bad(seq: &[u8]) -> Option<usize> {
     let bad = |b: u8| (b != b'A') & (b != b'C') & (b != b'G') & (b != b'T');
-    if seq.iter().fold(false, |any, &b| any | bad(b)) {
-        seq.iter().position(|&b| bad(b))
-    } else {
-        None
-    }
+    if seq.iter().fold(false, |any, &b| any | bad(b)) { seq.iter().position(|&b| bad(b)) } else { None }
 }
 
-/// The number of windows, or the answer of the first refusal that applies.
-fn admit(k: u64, m: u64, key: u64, seq: &[u8], room_len: usize) -> Result<usize, u64> {
+/// The number of windows, or the first refusal that applies.
+fn admit(k: u64, m: u64, key: u64, seq: &[u8], room_len: usize) -> Result<usize, Refused> {
     if k == 0 || k > 31 {
-        return Err(refused(1, 0));
+        return Err(Refused::by(1));
     }
     if m == 0 || m > k {
-        return Err(refused(2, 0));
+        return Err(Refused::by(2));
     }
     if key >= 1 << (2 * m) {
-        return Err(refused(3, 0));
+        return Err(Refused::by(3));
     }
     if seq.len() > LONGEST {
-        return Err(refused(5, 0));
+        return Err(Refused::by(5));
     }
     if let Some(place) = first_bad(seq) {
-        return Err(refused(6, place));
+        return Err(Refused { number: 6, place });
     }
     let windows = (seq.len() + 1).saturating_sub(k as usize);
     if room_len < 4 * windows {
-        return Err(refused(7, 0));
+        return Err(Refused::by(7));
     }
     Ok(windows)
 }
 
 /// Answers a scan: refused, or by `write`, which is handed four bytes for the position of each window.
-fn served(k: u64, m: u64, key: u64, seq: &[u8], room: &mut [u8], write: impl FnOnce(&mut [[u8; 4]])) -> u64 {
-    let windows = match admit(k, m, key, seq, room.len()) {
-        Ok(windows) => windows,
-        Err(answer) => return answer,
-    };
+fn served(
+    k: u64,
+    m: u64,
+    key: u64,
+    seq: &[u8],
+    room: &mut [u8],
+    write: impl FnOnce(&mut [[u8; 4]]),
+) -> Result<usize, Refused> {
+    let windows = admit(k, m, key, seq, room.len())?;
     if windows > 0 {
         write(&mut room.as_chunks_mut::<4>().0[..windows]);
     }
-    windows as u64
+    Ok(windows)
 }
 
 /// By block minima: a window of w words is a suffix of one block of w words and a prefix of the next, so its
 /// least word is the lesser of a suffix minimum and a running minimum. The cost does not depend on the letters.
 /// One run, letters by arithmetic, one path for every k and m: the form of the proved scan.
-pub fn block_scan(k: u64, m: u64, key: u64, seq: &[u8], room: &mut [u8]) -> u64 {
+pub fn block_scan(k: u64, m: u64, key: u64, seq: &[u8], room: &mut [u8]) -> Result<usize, Refused> {
     served(k, m, key, seq, room, |positions| blocks(k as usize, m as usize, key, seq, positions))
 }
 
@@ -111,7 +106,7 @@ fn suffixes(ring: &mut [u64]) {
 
 /// The fastest of some twenty ways to write the same in one run: places in the whole sequence where they fit below
 /// the word, which is for m <= 24, and suffix minima two at a time.
-pub fn tuned_scan(k: u64, m: u64, key: u64, seq: &[u8], room: &mut [u8]) -> u64 {
+pub fn tuned_scan(k: u64, m: u64, key: u64, seq: &[u8], room: &mut [u8]) -> Result<usize, Refused> {
     let (window, mer) = (k as usize, m as usize);
     served(k, m, key, seq, room, |places| match m {
         ..=24 => all_blocks::<true>(window, mer, key, seq, places),
@@ -242,7 +237,7 @@ fn all_blocks<const FAR: bool>(k: usize, m: usize, key: u64, seq: &[u8], places:
 }
 
 /// By block minima as well, in two runs side by side and with a table of letters.
-pub fn paired_scan(k: u64, m: u64, key: u64, seq: &[u8], room: &mut [u8]) -> u64 {
+pub fn paired_scan(k: u64, m: u64, key: u64, seq: &[u8], room: &mut [u8]) -> Result<usize, Refused> {
     served(k, m, key, seq, room, |places| match m {
         ..=24 => pair::<true>(k, m, key, seq, places),
         _ => pair::<false>(k, m, key, seq, places),
@@ -410,13 +405,10 @@ fn two_runs<const FAR: bool>(words: &Words, seq: &[u8], half: usize, places: &mu
 
 /// By a monotone deque: it holds the words of a window that may still become least, in the order of their places,
 /// none less than the one before. The front is the least.
-pub fn deque_scan(k: u64, m: u64, key: u64, seq: &[u8], room: &mut [u8]) -> u64 {
-    let windows = match admit(k, m, key, seq, room.len()) {
-        Ok(windows) => windows,
-        Err(answer) => return answer,
-    };
+pub fn deque_scan(k: u64, m: u64, key: u64, seq: &[u8], room: &mut [u8]) -> Result<usize, Refused> {
+    let windows = admit(k, m, key, seq, room.len())?;
     if windows == 0 {
-        return 0;
+        return Ok(0);
     }
     let mut deque = Deque { ring: [(0, 0); 32], front: 0, back: 0, w: (k - m + 1) as u32 };
     let mask = (1 << (2 * m)) - 1;
@@ -434,7 +426,7 @@ pub fn deque_scan(k: u64, m: u64, key: u64, seq: &[u8], room: &mut [u8]) -> u64 
         *place = deque.slide(word ^ key, at).to_be_bytes();
         at += 1;
     }
-    windows as u64
+    Ok(windows)
 }
 
 /// At most 31 words are held, so 32 entries are enough; `front` and `back` count on and are taken modulo 32.
@@ -461,57 +453,22 @@ impl Deque {
     }
 }
 
-/// The plain scan, apart from the others in all its steps: every word of every window is read afresh.
-pub fn plain_scan(k: u64, m: u64, key: u64, seq: &[u8], room: &mut [u8]) -> u64 {
-    const REFUSED: u64 = 9_223_372_036_854_775_808;
-    if k < 1 || k > 31 {
-        return REFUSED + 65_536;
-    }
-    if m < 1 || m > k {
-        return REFUSED + 2 * 65_536;
-    }
-    if key >= 4u64.pow(m as u32) {
-        return REFUSED + 3 * 65_536;
-    }
-    if seq.len() > 65_536 {
-        return REFUSED + 5 * 65_536;
-    }
-    for place in 0..seq.len() {
-        match seq[place] {
-            b'A' | b'C' | b'G' | b'T' => {}
-            _ => return REFUSED + 6 * 65_536 + place as u64,
-        }
-    }
-    let (k, m) = (k as usize, m as usize);
-    let windows = if seq.len() < k { 0 } else { seq.len() - k + 1 };
-    if room.len() < 4 * windows {
-        return REFUSED + 7 * 65_536;
-    }
-    for window in 0..windows {
-        let mut least = window;
-        for place in window..=window + k - m {
-            if plain_word(&seq[place..place + m]) ^ key < plain_word(&seq[least..least + m]) ^ key {
-                least = place;
+/// By looking each window through: the k-mer is kept as a number, and each of its m-mers is cut out and keyed.
+pub fn naive_scan(k: u64, m: u64, key: u64, seq: &[u8], room: &mut [u8]) -> Result<usize, Refused> {
+    served(k, m, key, seq, room, |positions| {
+        let (kmer_mask, mer_mask) = ((1 << (2 * k)) - 1, (1 << (2 * m)) - 1);
+        let (before, rest) = seq.split_at(k as usize - 1);
+        let mut kmer = before.iter().fold(0, |kmer, &letter| 4 * kmer + digit(letter));
+        for (window, (&letter, position)) in rest.iter().zip(positions).enumerate() {
+            kmer = (4 * kmer + digit(letter)) & kmer_mask;
+            let (mut least, mut at) = (u64::MAX, 0);
+            for place in 0..=(k - m) as u32 {
+                let keyed = ((kmer >> (2 * ((k - m) as u32 - place))) & mer_mask) ^ key;
+                if keyed < least {
+                    (least, at) = (keyed, place);
+                }
             }
+            *position = (window as u32 + at).to_be_bytes();
         }
-        room[4 * window] = (least / 16_777_216 % 256) as u8;
-        room[4 * window + 1] = (least / 65_536 % 256) as u8;
-        room[4 * window + 2] = (least / 256 % 256) as u8;
-        room[4 * window + 3] = (least % 256) as u8;
-    }
-    windows as u64
-}
-
-fn plain_word(letters: &[u8]) -> u64 {
-    let mut word = 0;
-    for letter in letters {
-        word = 4 * word
-            + match letter {
-                b'A' => 0,
-                b'C' => 1,
-                b'G' => 2,
-                _ => 3,
-            };
-    }
-    word
+    })
 }

@@ -1,9 +1,7 @@
 //! Pages in safe Rust, in two ways over the same tables: by the walk of `shelves`, and by a descent for each k-mer.
 
-#![forbid(unsafe_code)]
-
-use crate::sizes::served;
-use crate::REFUSED_8;
+use crate::sizes::accepted;
+use plain::definitions::Refused;
 
 /// What is added to a state where w was met.
 const MET: usize = 32;
@@ -46,10 +44,10 @@ impl Walk {
             }
             fall = after;
         }
-        for c in 0..128 {
-            let after = next[c] + MET as u8;
-            self.moves[c] = if u64::from(next[c]) == self.m { after } else { next[c] };
-            self.moves[128 + c] = after;
+        let (before, met) = self.moves.split_at_mut(128);
+        for ((next, before), met) in next.into_iter().zip(before).zip(met) {
+            *met = next + MET as u8;
+            *before = if u64::from(next) == self.m { *met } else { next };
         }
     }
 
@@ -68,11 +66,7 @@ impl Walk {
     #[inline(always)]
     fn ways_under(&self, left: usize, state: usize, letter: usize) -> u64 {
         let c = 4 * state + letter;
-        if left < usize::from(self.ban[c % 128]) {
-            self.ways[left - 1][usize::from(self.moves[c])]
-        } else {
-            0
-        }
+        if left < usize::from(self.ban[c % 128]) { self.ways[left - 1][usize::from(self.moves[c])] } else { 0 }
     }
 
     /// The k-mers under a beginning, after so many, as many as the room takes.
@@ -126,33 +120,27 @@ impl Walk {
     }
 }
 
+/// The tables of a shelf and its size, or the first refusal of a page that applies.
+#[inline(always)]
+fn opened(k: u64, m: u64, key: u64, word: u64, start: u64) -> Result<(Walk, u64), Refused> {
+    accepted(k, m, key, word)?;
+    let walk = Walk::new(k, m, key, word);
+    let size = walk.ways[k as usize][0];
+    if start > size { Err(Refused::by(8)) } else { Ok((walk, size)) }
+}
+
 /// The page by the walk: one descent, and from there on.
-pub fn walk_page(k: u64, m: u64, key: u64, word: u64, start: u64, room: &mut [u64]) -> u64 {
-    served(k, m, key, word, || {
-        let walk = Walk::new(k, m, key, word);
-        let size = walk.ways[k as usize][0];
-        if start > size {
-            REFUSED_8
-        } else if start == size {
-            0
-        } else {
-            walk.fill(k as usize, 0, 0, start, room) as u64
-        }
-    })
+pub fn walk_page(k: u64, m: u64, key: u64, word: u64, start: u64, room: &mut [u64]) -> Result<u64, Refused> {
+    let (walk, size) = opened(k, m, key, word, start)?;
+    Ok(if start == size { 0 } else { walk.fill(k as usize, 0, 0, start, room) as u64 })
 }
 
 /// The page by a descent for each k-mer.
-pub fn descent_page(k: u64, m: u64, key: u64, word: u64, start: u64, room: &mut [u64]) -> u64 {
-    served(k, m, key, word, || {
-        let walk = Walk::new(k, m, key, word);
-        let size = walk.ways[k as usize][0];
-        if start > size {
-            return REFUSED_8;
-        }
-        let end = (size - start).min(room.len() as u64);
-        for (entry, place) in room.iter_mut().zip(start..start + end) {
-            *entry = walk.kmer(k as usize, place);
-        }
-        end
-    })
+pub fn descent_page(k: u64, m: u64, key: u64, word: u64, start: u64, room: &mut [u64]) -> Result<u64, Refused> {
+    let (walk, size) = opened(k, m, key, word, start)?;
+    let end = (size - start).min(room.len() as u64);
+    for (entry, place) in room.iter_mut().zip(start..start + end) {
+        *entry = walk.kmer(k as usize, place);
+    }
+    Ok(end)
 }

@@ -10,7 +10,8 @@ pub struct Refused {
 }
 
 impl Refused {
-    fn by(number: u32) -> Refused {
+    /// With no place beside it.
+    pub fn by(number: u32) -> Refused {
         Refused { number, place: 0 }
     }
 

@@ -1,0 +1,21 @@
+//! Contenders that take turns.
+
+/// What is measured, by its name.
+#[derive(Clone, Copy)]
+pub struct Contender<F> {
+    pub name: &'static str,
+    pub call: F,
+}
+
+/// The best time of each contender. They take turns in every round, and the first changes from round to round, so that a change of the processor's
+/// speed meets all alike.
+pub fn best_times<F: Copy>(contenders: &[Contender<F>], rounds: usize, mut time: impl FnMut(F) -> f64) -> Vec<f64> {
+    let mut best = vec![f64::INFINITY; contenders.len()];
+    for round in 0..rounds {
+        for turn in 0..contenders.len() {
+            let c = (turn + round) % contenders.len();
+            best[c] = best[c].min(time(contenders[c].call));
+        }
+    }
+    best
+}
