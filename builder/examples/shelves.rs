@@ -90,7 +90,7 @@ fn text(m: u64, word: usize) -> String {
 fn grouped(number: u64) -> String {
     let digits = number.to_string();
     let comma = |(place, digit): (usize, char)| {
-        let apart = place > 0 && (digits.len() - place) % 3 == 0;
+        let apart = place > 0 && (digits.len() - place).is_multiple_of(3);
         [if apart { "," } else { "" }, digit.to_string().as_str()].concat()
     };
     digits.chars().enumerate().map(comma).collect()

@@ -5,6 +5,7 @@ use std::fmt::{self, Display, Formatter};
 
 /// Why a call was refused. Each has the number that the catalogue gives it, [`Refusal::number`].
 #[derive(Clone, Copy, Debug, PartialEq, Eq, Hash)]
+#[non_exhaustive]
 pub enum Refusal {
     /// 1: k is 0 or above 31.
     K,
