@@ -1,5 +1,5 @@
 //! The proved library measured beside safe Rust, all in one run. Prints the tables and writes them, with the plot, into the folder that is named, as
-//! speed.md and speed.svg. What is measured is first compared with plain Rust.
+//! tables.md and speed.svg. What is measured is first compared with plain Rust.
 
 mod check;
 mod masks;
@@ -32,6 +32,6 @@ fn main() -> io::Result<()> {
     let text = report.text();
     print!("{text}");
     fs::create_dir_all(&folder)?;
-    fs::write(Path::new(&folder).join("speed.md"), text)?;
+    fs::write(Path::new(&folder).join("tables.md"), text)?;
     fs::write(Path::new(&folder).join("speed.svg"), plot::scans(&times))
 }
