@@ -2,15 +2,16 @@
 -- Assumes nothing.
 use Prim.Native.Nat.{ℕ, suc, _+_, _-_, _*_, _^_, _≤_, _<_}
 use mathlib.Core.List.{List}
-use mathlib.Core.Path.{_≡_, ap, _∙_}
+use mathlib.Core.Path.{_≡_, sym, ap, _∙_}
 use native.Mathlib.Nat.{mod-lt, one-le-pow}
 use native.Mathlib.Omega.{arith}
-use lib.ListN.{length, getD, take, drop, length-map}
-use Rattle.definitions.specs.Words.{letterOf, spelled, word as wordOf}
+use lib.ListN.{length, getD, take, drop, length-map, length-drop}
+use lib.Seq.{getD-drop, drop-drop}
+use Rattle.definitions.specs.Words.{Letters, letterOf, spelled, val, word as wordOf}
 use Rattle.definitions.specs.Vigemins.{keyed, leastPlace, scan}
 use Rattle.laws.specs.Minima.{length-values}
-use Rattle.laws.specs.Numbers.{four-pos, spelled-letters}
-use Rattle.laws.specs.Rolls.{rolled, roll-letter, values, value-rolled, values-under, scan-values}
+use Rattle.laws.specs.Numbers.{four-pos, spelled-letters, letters-drop}
+use Rattle.laws.specs.Rolls.{rolled, roll-letter, roll-mer, values, value-rolled, values-under, scan-values}
 use Rattle.letters.specs.Letters.{code-spelled}
 use Rattle.scans.specs.declared.Settings.{Settings}
 use Rattle.scans.specs.declared.Mer.{Mer}
@@ -42,19 +43,35 @@ module _ (s : Settings) (seq : List ℕ) (a : Readable s seq) where
         under = values-under (s .m) (s .key) (spelled seq) (p .keySmall) (spelled-letters seq (a .allLetters));
       }
 
-  -- the letters read last, once the letter at place t is read
-  pub letter-read : (t : ℕ) → t < length seq → rollOn s (rolled (s .m) (spelled seq) t) (getD seq t 0) ≡ rolled (s .m) (spelled seq) (suc t)
-  letter-read t h = rw (code-spelled seq t (a .allLetters) h) (roll-letter (s .m) (spelled seq) t (rw length-map h))
+  -- of the letters from a place on those read last, once one more is read, which stands at a place of the sequence
+  pub letter-read : (from t : ℕ) {place : ℕ} → place ≡ from + t → place < length seq
+      → rollOn s (rolled (s .m) (drop from (spelled seq)) t) (getD seq place 0) ≡ rolled (s .m) (drop from (spelled seq)) (suc t)
+  letter-read from t {place} e h =
+      rw (code-spelled seq place (a .allLetters) h, e, ← getD-drop from (spelled seq) t 0)
+      (roll-letter (s .m) (drop from (spelled seq)) t (rw (length-drop, length-map) (omega arith)))
 
-  -- the m-mer that ends in the letter at place t, and its stamp
-  pub mer-read : (t p : ℕ) {word place : ℕ} {r : Mer} → t < length seq → p + s .m ≡ suc t → word ≡ rolled (s .m) (spelled seq) t * s .side
-      → Stamped s word (getD seq t 0) place r
-      → (r .word ≡ rolled (s .m) (spelled seq) (suc t) * s .side) × (r .stamp ≡ getD (values (s .m) (s .key) (spelled seq)) p 0 * s .side + place)
-  mer-read t p {word} {place} {r} h e w m =
-      let v = rolled (s .m) (spelled seq) t in
+  -- where m letters were read, it does not matter from which place on
+  pub rolled-from : (from t : ℕ) {end : ℕ} → end ≡ from + t → s .m ≤ t → end ≤ length seq
+      → rolled (s .m) (drop from (spelled seq)) t ≡ rolled (s .m) (spelled seq) end
+  rolled-from from t {end} e h l =
+      let x = spelled seq in
+      let letters : Letters x = spelled-letters seq (a .allLetters) in
+      let j = t - s .m in
+      let part : j + s .m ≡ t = omega arith in
+      let whole : from + j + s .m ≡ end = omega arith in
+      rw part at (sym (roll-mer (s .m) (drop from x) j (rw (length-drop, length-map) (omega arith)) (letters-drop from x letters)))
+      ∙ ap (λ (y : List ℕ). val (take (s .m) y)) (drop-drop j from x)
+      ∙ rw whole at (roll-mer (s .m) x (from + j) (rw length-map (omega arith)) letters)
+
+  -- the m-mer that ends in a letter, and its stamp
+  pub mer-read : (from t p : ℕ) {word at place : ℕ} {r : Mer} → at ≡ from + t → at < length seq → p + s .m ≡ suc at → s .m ≤ suc t
+      → word ≡ rolled (s .m) (drop from (spelled seq)) t * s .side → Stamped s word (getD seq at 0) place r
+      → (r .word ≡ rolled (s .m) (drop from (spelled seq)) (suc t) * s .side) × (r .stamp ≡ getD (values (s .m) (s .key) (spelled seq)) p 0 * s .side + place)
+  mer-read from t p {word} {at} {place} {r} i h e long w m =
+      let v = rolled (s .m) (drop from (spelled seq)) t in
       let l : p + s .m ≤ length (spelled seq) = rw length-map (omega arith) in (
-        m .rolls v w ∙ ap (λ (n : ℕ). n * s .side) (letter-read t h),
-        m .stamps v w ∙ rw (letter-read t h, value-rolled (s .m) (s .key) (spelled seq) (a .prepared .keySmall) (spelled-letters seq (a .allLetters)) p l, e),
+        m .rolls v w ∙ ap (λ (n : ℕ). n * s .side) (letter-read from t i h),
+        m .stamps v w ∙ rw (letter-read from t i h, rolled-from from (suc t) {end = suc at} (omega arith) long h, value-rolled (s .m) (s .key) (spelled seq) (a .prepared .keySmall) (spelled-letters seq (a .allLetters)) p l, e),
       )
 
   -- the position for a window

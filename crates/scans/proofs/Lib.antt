@@ -3,10 +3,12 @@
 -- Blocks        minima by blocks, over any values
 -- Letters       a sequence that is read: its values, the m-mer that ends in a letter, the position for a window
 -- Windows       a window that was read, and the next one
+-- Rooms         room that two runs write side by side
 -- Scans         the answer of a scan, for any entries that stand for the positions
 -- Determined    the contracts take every input and determine the outcomes
 pub mod Blocks
 pub mod Letters
 pub mod Windows
+pub mod Rooms
 pub mod Scans
 pub mod Determined

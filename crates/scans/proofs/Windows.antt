@@ -1,9 +1,9 @@
 -- A window that was read, and the next one.
 -- Assumes nothing.
-use Prim.Native.Nat.{ℕ, suc, _+_, _-_, _*_, _^_, _≤_, _<_, min}
+use Prim.Native.Nat.{ℕ, suc, _+_, _-_, _*_, _/_, _^_, _≤_, _<_, min}
 use mathlib.Core.List.{List}
 use mathlib.Core.Path.{_≡_, sym, ap, _∙_}
-use native.Mathlib.Nat.{zero-add, sub-zero, min-eq-left}
+use native.Mathlib.Nat.{min-eq-left}
 use native.Mathlib.Numerals.{add-one}
 use native.Mathlib.Omega.{arith}
 use lib.Bits.{bitAnd}
@@ -14,31 +14,29 @@ use Rattle.definitions.specs.Vigemins.{keyed}
 use Rattle.laws.specs.Filters.{length-tabulate, tabulate-at}
 use Rattle.laws.specs.Scans.{length-scan, scan-inside}
 use Rattle.laws.specs.Rolls.{rolled, values}
-use Rattle.laws.specs.Stamps.{leastFrom, leastFrom-last, lowest-top, stamped}
+use Rattle.laws.specs.Stamps.{lowest-top, stamped}
 use Rattle.scans.specs.declared.Settings.{Settings}
 use Rattle.scans.specs.declared.Mer.{Mer}
-use Rattle.scans.specs.declared.Reading.{Reading}
-use Rattle.scans.specs.Readings.{top, Entries, Suffixes, Rollable, Stamped, Readable, Filled, Minima, Read, Steppable, Writable, positionsOf}
-use Rattle.scans.proofs.Blocks.{stamp-low, filled-entries, filled-more, filled-minima, minima-filled, minima-more, minima-place}
-use Rattle.scans.proofs.Letters.{rolled-on, length-mers, mers, mer-read, window-position}
-
--- of the first block so many m-mers were read: the word, the least so far, and the stamps in the ring
-pub record Begun (s : Settings) (seq : List ℕ) (word run at : ℕ) (ring : List ℕ) : Type 0 where
-  pub within : at ≤ s .width
-  pub rolls : word ≡ rolled (s .m) (spelled seq) (s .m - 1 + at) * s .side
-  pub runs : run ≡ leastFrom top (s .side) (values (s .m) (s .key) (spelled seq)) 0 0 at
-  pub filled : Filled (s .side) (s .width) (values (s .m) (s .key) (spelled seq)) 0 at ring
+use Rattle.scans.specs.declared.Run.{Run}
+use Rattle.scans.specs.declared.Runs.{Runs}
+use Rattle.scans.specs.Readings.{top, Entries, Suffixes, Rollable, Stamped, Readable, Filled, Minima, Beginnable, Begun, Read, ReadBoth, Steppable, Writable, positionsOf}
+use Rattle.scans.proofs.Blocks.{filled-entries, filled-more, filled-minima, minima-filled, minima-more, minima-place}
+use Rattle.scans.proofs.Letters.{rolled-on, length-mers, mers, rolled-from, mer-read, window-position}
 
 -- a ring of tops has the stamps of nothing
-empty-ring : (side width : ℕ) (vs : List ℕ) → width ≤ 31 → Filled side width vs 0 0 (tabulate (λ _. top) 32)
-empty-ring side width vs h =
+empty-ring : (side width : ℕ) (vs : List ℕ) (from : ℕ) → width ≤ 31 → Filled side width vs from 0 (tabulate (λ _. top) 32)
+empty-ring side width vs from h =
     record { full = length-tabulate (λ _. top) 32; stamps = λ q l. absurd (omega arith); end = tabulate-at (λ _. top) 32 width 0 (omega arith) }
 
--- of so many windows the first i were read
-pub record Reached (s : Settings) (seq : List ℕ) (windows i : ℕ) (r : Reading) (ring : List ℕ) : Type 0 where
-  pub within : i ≤ windows
-  pub read : Read s seq r ring
-  pub last : suc (r .block + r .at) ≡ i
+-- of so many windows the left run has the first half, and the right one so many from this one on
+abbrev pub behind : ℕ → ℕ
+behind windows = windows - (windows + 1) / 2
+
+-- each run has read its window i
+pub record Reached (s : Settings) (seq : List ℕ) (windows i : ℕ) (r : Runs) (left right : List ℕ) : Type 0 where
+  pub within : i < (windows + 1) / 2
+  pub read : ReadBoth s seq (behind windows) r left right
+  pub last : r .block + r .at ≡ i
 
 module _ (s : Settings) (seq : List ℕ) (a : Readable s seq) where
   -- a window whose m-mers were read lies inside the sequence
@@ -47,25 +45,28 @@ module _ (s : Settings) (seq : List ℕ) (a : Readable s seq) where
   minima-inside m = omega (arith, m .read, length-mers s seq a, a .prepared .kIs, a .prepared .wide)
 
   -- and so a window that was read
-  pub block-inside : {r : Reading} {ring : List ℕ} → Read s seq r ring → r .block + r .at + s .k ≤ length seq
+  pub block-inside : {block at : ℕ} {r : Run} {ring : List ℕ} → Read s seq block at r ring → block + at + s .k ≤ length seq
   block-inside d = minima-inside (d .minima)
 
-  -- what reading the first window asks, of a ring of tops
-  pub ready : Readable s seq × Filled (s .side) (s .width) (values (s .m) (s .key) (spelled seq)) 0 0 (tabulate (λ _. top) 32)
-  ready =
-      (a, empty-ring (s .side) (s .width) (values (s .m) (s .key) (spelled seq)) (omega (arith, a .prepared .kIs, a .prepared .kFew, a .prepared .mSome)))
+  -- a block that was read whole can be turned into suffixes
+  pub whole-entries : {block at : ℕ} {r : Run} {ring : List ℕ} → at ≡ s .width → Read s seq block at r ring → Entries (s .width) ring
+  whole-entries {block} {at} {r} {ring} e d =
+      let vs = values (s .m) (s .key) (spelled seq) in
+      let m : Minima (s .side) (s .width) vs block (s .width) (r .least) ring = rw e at (d .minima) in
+      filled-entries (s .side) (s .width) (4 ^ s .m) vs (mers s seq a) (m .read) (minima-filled (s .side) (s .width) (4 ^ s .m) vs (mers s seq a) m)
 
-  -- a block that was read whole becomes the last one
-  pub turn-read : {r : Reading} {ring new : List ℕ} → r .at ≡ s .width → Suffixes (s .width) ring new → Read s seq r ring
-      → Read s seq (record { word = r .word; block = r .block + s .width; at = 0; run = top; position = r .position }) new
-  turn-read {r} {ring} {new} e f d =
-      let whole : Minima (s .side) (s .width) (values (s .m) (s .key) (spelled seq)) (r .block) (s .width) (r .run) ring = rw e at (d .minima) in
-      let same : r .block + r .at ≡ r .block + s .width + 0 = omega arith in
+  -- and becomes the last one
+  pub turn-read : {block at next : ℕ} {r : Run} {ring new : List ℕ} → at ≡ s .width → next ≡ block + s .width → Suffixes (s .width) ring new
+      → Read s seq block at r ring → Read s seq next 0 (record { word = r .word; least = top; position = r .position }) new
+  turn-read {block} {at} {next} {r} {ring} {new} e n f d =
+      let whole : Minima (s .side) (s .width) (values (s .m) (s .key) (spelled seq)) block (s .width) (r .least) ring = rw e at (d .minima) in
+      let same : block + at ≡ next + 0 = omega arith in
       record {
         minima =
-            filled-minima (s .side) (s .width) (4 ^ s .m) (values (s .m) (s .key) (spelled seq)) (mers s seq a) (whole .read)
+            rw n
+            (filled-minima (s .side) (s .width) (4 ^ s .m) (values (s .m) (s .key) (spelled seq)) (mers s seq a) (whole .read)
             (minima-filled (s .side) (s .width) (4 ^ s .m) (values (s .m) (s .key) (spelled seq)) (mers s seq a) whole)
-            f;
+            f);
         word = rw same at (d .word);
         position = rw same at (d .position);
       }
@@ -79,96 +80,97 @@ module _ (s : Settings) (seq : List ℕ) (a : Readable s seq) where
       rw (window-position s seq a (block + at) (minima-inside m), a .prepared .placesAre least, e, place) (omega arith)
 
   -- a window's position lies in the sequence
-  pub position-small : {r : Reading} {ring : List ℕ} → Read s seq r ring → r .position < 65536
-  position-small {r} d =
-      let p = r .block + r .at in
+  pub position-small : {block at : ℕ} {r : Run} {ring : List ℕ} → Read s seq block at r ring → r .position < 65536
+  position-small {block} {at} d =
+      let p = block + at in
       let k : p + s .k ≤ length (spelled seq) = rw length-map (block-inside d) in
       let inside = scan-inside (keyed (wordOf (s .m) (s .key))) (s .k) (s .m) (spelled seq) p (omega (arith, a .prepared .kIs, a .prepared .wide)) k in
       omega (arith, d .position, inside .1, block-inside d, a .short, a .prepared .mSome)
 
   -- the word read last can be rolled on
-  pub word-rollable : {r : Reading} {ring : List ℕ} → Read s seq r ring → Rollable s (r .word)
-  word-rollable {r} d = rolled-on (a .prepared) (spelled seq) (r .block + r .at + s .k) (d .word)
+  pub word-rollable : {block at : ℕ} {r : Run} {ring : List ℕ} → Read s seq block at r ring → Rollable s (r .word)
+  word-rollable {block} {at} d = rolled-on (a .prepared) (spelled seq) (block + at + s .k) (d .word)
 
   -- the next window is read
-  pub step-read : {r : Reading} {place : ℕ} {ring : List ℕ} → Steppable s r seq place ring → {mer : Mer} → Stamped s (r .word) (getD seq place 0) (r .at) mer
-      → {run : ℕ} → run ≡ min (r .run) (mer .stamp + s .width) → {least : ℕ} → least ≡ min (getD (set ring (r .at) (mer .stamp)) (r .at + 1) 0) run
-      → Read s seq (record { word = mer .word; block = r .block; at = r .at + 1; run = run; position = r .block + bitAnd least (s .side - 1) }) (set ring (r .at) (mer .stamp))
-  step-read {r} {place} {ring} b {mer} st {run} q {least} l =
-      record { minima = more; word = got .0 ∙ ap (λ (t : ℕ). rolled (s .m) (spelled seq) t * s .side) letters; position = position-read least more l }
+  pub step-read : {block at : ℕ} {r : Run} {place : ℕ} {ring : List ℕ} → Steppable s block at r seq place ring → {mer : Mer} → Stamped s (r .word) (getD seq place 0) at mer
+      → {least : ℕ} → least ≡ min (r .least) (mer .stamp + s .width) → {lowest : ℕ} → lowest ≡ min (getD (set ring at (mer .stamp)) (at + 1) 0) least
+      → Read s seq block (at + 1) (record { word = mer .word; least = least; position = block + bitAnd lowest (s .side - 1) }) (set ring at (mer .stamp))
+  step-read {block} {at} {r} {place} {ring} b {mer} st {least} q {lowest} l =
+      record { minima = more; word = got .0 ∙ ap (λ (t : ℕ). rolled (s .m) (spelled seq) t * s .side) letters; position = position-read lowest more l }
     where
       vs : List ℕ
       vs = values (s .m) (s .key) (spelled seq)
 
-      letters : suc place ≡ r .block + (r .at + 1) + s .k
+      letters : suc place ≡ block + (at + 1) + s .k
       letters = omega (arith, b .there)
 
-      got : (mer .word ≡ rolled (s .m) (spelled seq) (suc place) * s .side) × (mer .stamp ≡ getD vs (r .block + s .width + r .at) 0 * s .side + r .at)
+      got : (mer .word ≡ rolled (s .m) (spelled seq) (suc place) * s .side) × (mer .stamp ≡ getD vs (block + s .width + at) 0 * s .side + at)
       got =
-          mer-read s seq a place (r .block + s .width + r .at) (b .more) (omega (arith, b .there, a .prepared .kIs)) (rw (b .there) (b .read .word)) st
+          mer-read s seq a 0 place (block + s .width + at) (omega arith) (b .more) (omega (arith, b .there, a .prepared .kIs))
+          (omega (arith, b .there, a .prepared .kIs)) (rw (b .there) (b .read .word)) st
 
-      more : Minima (s .side) (s .width) vs (r .block) (r .at + 1) run (set ring (r .at) (mer .stamp))
+      more : Minima (s .side) (s .width) vs block (at + 1) least (set ring at (mer .stamp))
       more =
           rw (q, got .1, add-one)
           (minima-more (s .side) (s .width) (4 ^ s .m) vs (mers s seq a) (b .read .minima) (b .inside)
           (omega (arith, b .there, b .more, length-mers s seq a, a .prepared .kIs)))
 
-  -- ---- the first window
+  -- ---- the first window of a run
 
-  -- one more is read
-  pub begun-more : {word run at : ℕ} {ring : List ℕ} → Begun s seq word run at ring → at < s .width → {mer : Mer} → Stamped s word (getD seq (s .m - 1 + at) 0) at mer
-      → {least : ℕ} → least ≡ min run (mer .stamp) → Begun s seq (mer .word) least (at + 1) (set ring at (mer .stamp))
-  begun-more {word} {run} {at} {ring} b h {mer} st {least} q =
-      record {
-        within = omega arith;
-        rolls = got .0 ∙ ap (λ (t : ℕ). rolled (s .m) (spelled seq) t * s .side) letters;
-        runs = q ∙ rw (b .runs, got .1, order, add-one) (sym (leastFrom-last top (s .side) vs 0 0 at long (stamp-low (s .side) (s .width) (4 ^ s .m) vs (mers s seq a) (0 + at) (0 + at) long (omega (arith, a .prepared .placesFit)))));
-        filled = rw (got .1, add-one) (filled-more (s .side) (s .width) (4 ^ s .m) vs (mers s seq a) (b .filled) h);
-      }
-    where
-      vs : List ℕ
-      vs = values (s .m) (s .key) (spelled seq)
+  -- what reading it asks, of a ring of tops
+  ready : (from : ℕ) → Filled (s .side) (s .width) (values (s .m) (s .key) (spelled seq)) from 0 (tabulate (λ _. top) 32)
+  ready from =
+      empty-ring (s .side) (s .width) (values (s .m) (s .key) (spelled seq)) from (omega (arith, a .prepared .kIs, a .prepared .kFew, a .prepared .mSome))
 
-      letters : suc (s .m - 1 + at) ≡ s .m - 1 + (at + 1)
-      letters = omega arith
+  module _ (from : ℕ) (i : from + s .k ≤ length seq) where
+    -- one more m-mer is read
+    pub begun-more : {word at place : ℕ} {ring : List ℕ} → Begun s seq from word at ring → at < s .width → place ≡ from + s .m - 1 + at
+        → {mer : Mer} → Stamped s word (getD seq place 0) at mer → Begun s seq from (mer .word) (at + 1) (set ring at (mer .stamp))
+    begun-more {word} {at} {place} {ring} b h e {mer} st =
+        record {
+          within = omega arith;
+          rolls = got .0 ∙ ap (λ (t : ℕ). rolled (s .m) (drop from (spelled seq)) t * s .side) letters;
+          filled = rw (got .1, add-one) (filled-more (s .side) (s .width) (4 ^ s .m) vs (mers s seq a) (b .filled) h);
+        }
+      where
+        vs : List ℕ
+        vs = values (s .m) (s .key) (spelled seq)
 
-      long : 0 + at < length vs
-      long = omega (arith, length-mers s seq a, a .long, a .prepared .kIs)
+        letters : suc (s .m - 1 + at) ≡ s .m - 1 + (at + 1)
+        letters = omega arith
 
-      order : getD vs (0 + at) 0 * s .side + at ≡ getD vs (0 + at) 0 * s .side + (0 + at)
-      order = omega arith
+        got : (mer .word ≡ rolled (s .m) (drop from (spelled seq)) (suc (s .m - 1 + at)) * s .side) × (mer .stamp ≡ getD vs (from + at) 0 * s .side + at)
+        got =
+            mer-read s seq a from (s .m - 1 + at) (from + at) (omega (arith, a .prepared .mSome)) (omega (arith, a .prepared .kIs, a .prepared .mSome))
+            (omega (arith, a .prepared .mSome)) (omega (arith, a .prepared .mSome)) (b .rolls) st
 
-      got : (mer .word ≡ rolled (s .m) (spelled seq) (suc (s .m - 1 + at)) * s .side) × (mer .stamp ≡ getD vs (0 + at) 0 * s .side + at)
-      got =
-          mer-read s seq a (s .m - 1 + at) (0 + at) (omega (arith, a .long, a .prepared .kIs, a .prepared .mSome)) (omega (arith, a .prepared .mSome)) (b .rolls) st
+    -- where all were read, the ring can be turned into suffixes
+    pub begun-entries : {word : ℕ} {ring : List ℕ} → Begun s seq from word (s .width) ring → Entries (s .width) ring
+    begun-entries b =
+        filled-entries (s .side) (s .width) (4 ^ s .m) (values (s .m) (s .key) (spelled seq)) (mers s seq a)
+        (omega (arith, length-mers s seq a, a .prepared .kIs)) (b .filled)
 
-  -- where all were read, the ring can be turned into suffixes
-  pub begun-entries : {word run : ℕ} {ring : List ℕ} → Begun s seq word run (s .width) ring → Entries (s .width) ring
-  begun-entries b =
-      filled-entries (s .side) (s .width) (4 ^ s .m) (values (s .m) (s .key) (spelled seq)) (mers s seq a)
-      (omega (arith, length-mers s seq a, a .long, a .prepared .kIs)) (b .filled)
+    -- and then the window was read
+    pub begun-read : {word block : ℕ} {ring new : List ℕ} → block ≡ from → Begun s seq from word (s .width) ring → Suffixes (s .width) ring new
+        → Read s seq block 0 (record { word = word; least = top; position = from + bitAnd (getD new 0 0) (s .side - 1) }) new
+    begun-read {word} {block} {ring} {new} e b f =
+        rw e (record { minima = none; word = b .rolls ∙ ap (λ (t : ℕ). t * s .side) letters; position = position-read (getD new 0 0) none least })
+      where
+        vs : List ℕ
+        vs = values (s .m) (s .key) (spelled seq)
 
-  -- and then the first window was read
-  pub begun-read : {word run : ℕ} {ring new : List ℕ} → Begun s seq word run (s .width) ring → Suffixes (s .width) ring new
-      → Read s seq (record { word = word; block = 0; at = 0; run = top; position = bitAnd run (s .side - 1) }) new
-  begun-read {word} {run} {ring} {new} b f =
-      record { minima = none; word = b .rolls ∙ ap (λ (t : ℕ). rolled (s .m) (spelled seq) t * s .side) letters; position = sym (zero-add (bitAnd run (s .side - 1))) ∙ position-read run none least }
-    where
-      vs : List ℕ
-      vs = values (s .m) (s .key) (spelled seq)
+        letters : rolled (s .m) (drop from (spelled seq)) (s .m - 1 + s .width) ≡ rolled (s .m) (spelled seq) (from + 0 + s .k)
+        letters =
+            rolled-from s seq a from (s .m - 1 + s .width) {end = from + 0 + s .k} (omega (arith, a .prepared .kIs, a .prepared .mSome)) (omega (arith, a .prepared .wide)) (omega arith)
 
-      letters : s .m - 1 + s .width ≡ 0 + 0 + s .k
-      letters = omega (arith, a .prepared .kIs, a .prepared .mSome)
+        none : Minima (s .side) (s .width) vs from 0 top new
+        none =
+            filled-minima (s .side) (s .width) (4 ^ s .m) vs (mers s seq a) (omega (arith, length-mers s seq a, a .prepared .kIs)) (b .filled) f
 
-      none : Minima (s .side) (s .width) vs 0 0 top new
-      none =
-          filled-minima (s .side) (s .width) (4 ^ s .m) vs (mers s seq a) (omega (arith, length-mers s seq a, a .long, a .prepared .kIs)) (b .filled) f
-
-      least : run ≡ min (getD new 0 0) top
-      least =
-          let first : getD new 0 0 ≡ run = rw sub-zero at (none .left 0 (omega arith) (omega arith)) ∙ sym (b .runs) in
-          let low : run ≤ top = rw (b .runs) (lowest-top top (stamped (s .side) 0 (take (s .width) (drop 0 vs)))) in
-          sym (rw first (min-eq-left low))
+        least : getD new 0 0 ≡ min (getD new 0 0) top
+        least =
+            let low : getD new 0 0 ≤ top = rw (none .left 0 (omega arith) (omega arith)) (lowest-top top (stamped (s .side) 0 (take (s .width - 0) (drop (from + 0) vs)))) in
+            sym (min-eq-left low)
 
 module _ {s : Settings} {seq : List ℕ} {windows each : ℕ} {room : List ℕ} (w : Writable s seq windows each room) where
   -- a position for each window
@@ -176,20 +178,30 @@ module _ {s : Settings} {seq : List ℕ} {windows each : ℕ} {room : List ℕ} 
   length-positions =
       length-scan (keyed (wordOf (s .m) (s .key))) (s .k) (s .m) (spelled seq) ∙ rw length-map (omega (arith, w .all))
 
-  -- the first window was reached
-  pub reached-first : {r : Reading} {ring : List ℕ} → Read s seq r ring → r .block + r .at ≡ 0 → Reached s seq windows 1 r ring
-  reached-first d e = record { within = w .some; read = d; last = omega arith }
+  -- what reading the first windows asks, of rings of tops
+  pub begins : Beginnable s seq (behind windows)
+      × (Filled (s .side) (s .width) (values (s .m) (s .key) (spelled seq)) 0 0 (tabulate (λ _. top) 32)
+      × Filled (s .side) (s .width) (values (s .m) (s .key) (spelled seq)) (behind windows) 0 (tabulate (λ _. top) 32))
+  begins =
+      (record { readable = w .readable; inside = omega (arith, w .some, w .all) }, (ready s seq (w .readable) 0, ready s seq (w .readable) (behind windows)))
 
-  module _ {i : ℕ} {r : Reading} {ring : List ℕ} (h : Reached s seq windows i r ring) where
-    -- the letter that the next window ends in
-    pub next-place : i < windows → (i + s .k - 1 ≡ r .block + r .at + s .k) × (i + s .k - 1 < length seq)
-    next-place l = (omega (arith, h .last), omega (arith, w .all, h .last))
+  -- the first windows were reached
+  pub reached-first : {r : Runs} {left right : List ℕ} → ReadBoth s seq (behind windows) r left right → r .block + r .at ≡ 0
+      → Reached s seq windows 0 r left right
+  reached-first d e = record { within = omega (arith, w .some); read = d; last = e }
 
-    -- the next window was reached
-    pub reached-next : i < windows → {t : Reading} {new : List ℕ} → Read s seq t new → t .block + t .at ≡ suc (r .block + r .at)
-        → Reached s seq windows (i + 1) t new
-    reached-next l d e = record { within = omega arith; read = d; last = omega (arith, h .last) }
+  module _ {i : ℕ} {r : Runs} {left right : List ℕ} (h : Reached s seq windows i r left right) where
+    -- the letters that the next windows end in
+    pub next-place : (i + 1 ≡ (windows + 1) / 2 → ⊥) → (i + 1 + s .k - 1 ≡ r .block + r .at + s .k) × (i + 1 + s .k - 1 + (behind windows) < length seq)
+    next-place l = (omega (arith, h .last), omega (arith, w .all, h .last, h .within, l))
 
-    -- the position that is known is that of the last window reached
-    pub reached-position : {p : ℕ} → suc p ≡ i → r .position ≡ getD (positionsOf s seq) p 0
-    reached-position {p} e = let same : r .block + r .at ≡ p = omega (arith, h .last) in rw same at (h .read .position)
+    -- the next windows were reached
+    pub reached-next : (i + 1 ≡ (windows + 1) / 2 → ⊥) → {t : Runs} {newLeft newRight : List ℕ} → ReadBoth s seq (behind windows) t newLeft newRight
+        → t .block + t .at ≡ suc (r .block + r .at) → Reached s seq windows (i + 1) t newLeft newRight
+    reached-next l d e = record { within = omega (arith, h .within, l); read = d; last = omega (arith, h .last) }
+
+    -- the positions that are known are those of the windows reached
+    pub reached-positions : (r .left .position ≡ getD (positionsOf s seq) i 0) × (r .right .position ≡ getD (positionsOf s seq) (behind windows + i) 0)
+    reached-positions =
+        let other : r .block + (behind windows) + r .at ≡ behind windows + i = omega (arith, h .last) in
+        (rw (h .last) at (h .read .one .position), rw other at (h .read .other .position))

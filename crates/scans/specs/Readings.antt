@@ -14,7 +14,8 @@ use Rattle.laws.specs.Stamps.{lowest, leastFrom}
 use Rattle.letters.specs.Letters.{codeOf}
 use Rattle.scans.specs.declared.Settings.{Settings}
 use Rattle.scans.specs.declared.Mer.{Mer}
-use Rattle.scans.specs.declared.Reading.{Reading}
+use Rattle.scans.specs.declared.Run.{Run}
+use Rattle.scans.specs.declared.Runs.{Runs}
 
 -- the largest number of 64 bits
 abbrev pub top : ℕ
@@ -101,31 +102,48 @@ pub record Minima (side width : ℕ) (vs : List ℕ) (block at run : ℕ) (ring 
   pub stamps : (q : ℕ) → q < at → getD ring q 0 ≡ getD vs (block + width + q) 0 * side + q
   pub left : (q : ℕ) → at ≤ q → q ≤ width → getD ring q 0 ≡ leastFrom top side vs q (block + q) (width - q)
 
+-- a sequence with a window at a place, which a run begins with
+pub record Beginnable (s : Settings) (seq : List ℕ) (from : ℕ) : Type 0 where
+  pub readable : Readable s seq
+  pub inside : from + s .k ≤ length seq
+
+-- of the window at a place so many m-mers were read: the word of the letters read from there on, and the stamps in the ring
+pub record Begun (s : Settings) (seq : List ℕ) (from word at : ℕ) (ring : List ℕ) : Type 0 where
+  pub within : at ≤ s .width
+  pub rolls : word ≡ rolled (s .m) (drop from (spelled seq)) (s .m - 1 + at) * s .side
+  pub filled : Filled (s .side) (s .width) (values (s .m) (s .key) (spelled seq)) from at ring
+
 -- a window was read, of which the first m-mer is so far behind the start of a block: the word is that of the letters read last, and the position
 -- that of the window's vigemin
-pub record Read (s : Settings) (seq : List ℕ) (r : Reading) (ring : List ℕ) : Type 0 where
-  pub minima : Minima (s .side) (s .width) (values (s .m) (s .key) (spelled seq)) (r .block) (r .at) (r .run) ring
-  pub word : r .word ≡ rolled (s .m) (spelled seq) (r .block + r .at + s .k) * s .side
-  pub position : r .position ≡ getD (positionsOf s seq) (r .block + r .at) 0
+pub record Read (s : Settings) (seq : List ℕ) (block at : ℕ) (r : Run) (ring : List ℕ) : Type 0 where
+  pub minima : Minima (s .side) (s .width) (values (s .m) (s .key) (spelled seq)) block at (r .least) ring
+  pub word : r .word ≡ rolled (s .m) (spelled seq) (block + at + s .k) * s .side
+  pub position : r .position ≡ getD (positionsOf s seq) (block + at) 0
 
--- a reading of some sequence
-pub record Turnable (s : Settings) (r : Reading) (ring : List ℕ) : Type 0 where
+-- a window of each run was read, the right one so far behind the left one
+pub record ReadBoth (s : Settings) (seq : List ℕ) (from : ℕ) (r : Runs) (left right : List ℕ) : Type 0 where
+  pub one : Read s seq (r .block) (r .at) (r .left) left
+  pub other : Read s seq (r .block + from) (r .at) (r .right) right
+
+-- two runs of some sequence
+pub record Turnable (s : Settings) (r : Runs) (left right : List ℕ) : Type 0 where
   pub seq : List ℕ
+  pub from : ℕ
   pub readable : Readable s seq
-  pub read : Read s seq r ring
+  pub read : ReadBoth s seq from r left right
 
--- the same window was read, whatever the sequence, and its block has m-mers left to be read after it
-pub record Turned (s : Settings) (r : Reading) (ring : List ℕ) (t : Reading) (new : List ℕ) : Type 0 where
-  pub read : (seq : List ℕ) → Readable s seq → Read s seq r ring → Read s seq t new
+-- the same windows were read, whatever the sequence, and their blocks have m-mers left to be read after them
+pub record Turned (s : Settings) (r : Runs) (left right : List ℕ) (t : Runs) (newLeft newRight : List ℕ) : Type 0 where
+  pub read : (seq : List ℕ) (from : ℕ) → Readable s seq → ReadBoth s seq from r left right → ReadBoth s seq from t newLeft newRight
   pub inside : t .at < s .width
   pub same : t .block + t .at ≡ r .block + r .at
 
--- a reading with m-mers left in its block, of a sequence with a letter left, which stands at a place
-pub record Steppable (s : Settings) (r : Reading) (seq : List ℕ) (place : ℕ) (ring : List ℕ) : Type 0 where
+-- a run with m-mers left in its block, of a sequence with a letter left, which stands at a place
+pub record Steppable (s : Settings) (block at : ℕ) (r : Run) (seq : List ℕ) (place : ℕ) (ring : List ℕ) : Type 0 where
   pub readable : Readable s seq
-  pub read : Read s seq r ring
-  pub inside : r .at < s .width
-  pub there : place ≡ r .block + r .at + s .k
+  pub read : Read s seq block at r ring
+  pub inside : at < s .width
+  pub there : place ≡ block + at + s .k
   pub more : place < length seq
 
 -- a sequence with some windows, and room for so many entries for each

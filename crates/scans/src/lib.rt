@@ -1,7 +1,7 @@
 // Scans: for each window of a sequence the position of its vigemin in the whole sequence, written as positions or as bytes. Assumes nothing.
 ghost use mathlib.Core.Path.{_≡_};
 ghost use Prim.Native.Nat.{suc, _+_, _-_, _*_, _≤_, _<_};
-ghost use lib.ListN.{length};
+ghost use lib.ListN.{length, drop};
 ghost use lib.Seq.{sets};
 ghost use Rattle.definitions.specs.Words.{spelled, bytes};
 ghost use Rattle.definitions.specs.Lists.{over};
@@ -9,22 +9,26 @@ ghost use Rattle.definitions.specs.Outcomes.{scanOutcome, asBytes, scanBytesOut
 ghost use Rattle.laws.specs.Accepted.{OrderAccepted};
 ghost use Rattle.laws.specs.Rolls.{rolled, values};
 ghost use Rattle.scans.specs.Answers.{scanned};
-ghost use Rattle.scans.specs.Readings.{Entries, Suffixes, SetTo, Rollable, Rolled, Stamped, Readable, Filled, Read, Turnable, Turned, Steppable, Writable, positionsOf};
+ghost use Rattle.scans.specs.Readings.{Entries, Suffixes, SetTo, Rollable, Rolled, Stamped, Readable, Filled, Begun, Beginnable, ReadBoth, Read, Turnable, Turned, Steppable, Writable, positionsOf};
 
 // The largest number of 64 bits: no stamp is above it.
 const TOP: u64 = 18446744073709551615;
 
-// Turns each of the first entries of the ring into the least of those from its place on.
-fn suffixes(width: u64, ring: &mut [u64; 32])
-    requires { ⌜ Entries width (now ring) ⌝ }
-    ensures { λ _. ⌜ Suffixes width (now (ring .entry)) (now (ring .exit)) ⌝ }
+// Turns each of the first entries of two rings into the least of those from its place on. The rings go side by side: neither waits for the other.
+fn suffixes(width: u64, left: &mut [u64; 32], right: &mut [u64; 32])
+    requires { ⌜ Entries width (now left) × Entries width (now right) ⌝ }
+    ensures { λ _. ⌜ Suffixes width (now (left .entry)) (now (left .exit)) ⌝ }
+    ensures { λ _. ⌜ Suffixes width (now (right .entry)) (now (right .exit)) ⌝ }
 {
     let mut i = width - 1;
-    let mut least = ring[i as usize];
+    let mut least = left[i as usize];
+    let mut other = right[i as usize];
     while 0 < i {
         i -= 1;
-        least = powers::lesser(ring[i as usize], least);
-        ring[i as usize] = least;
+        least = powers::lesser(left[i as usize], least);
+        left[i as usize] = least;
+        other = powers::lesser(right[i as usize], other);
+        right[i as usize] = other;
     }
 }
 
@@ -84,129 +88,196 @@ fn next_mer(s: Settings, word: u64, byte: u8, at: u64) -> Mer
     Mer { word: next, stamp }
 }
 
-// Reads the letters before the last one of the first m-mer.
-fn start(s: Settings, seq: &[u8]) -> u64
-    requires { ⌜ Readable s (now seq) ⌝ }
-    ensures { λ r. ⌜ r ≡ rolled (s .m) (spelled (now (seq .entry))) (s .m - 1) * s .side ⌝ }
+// Reads the letters of the m-mer at a place but the last one.
+fn start(s: Settings, seq: &[u8], from: u64) -> u64
+    requires { ⌜ Beginnable s (now seq) from ⌝ }
+    ensures { λ r. ⌜ r ≡ rolled (s .m) (drop from (spelled (now (seq .entry)))) (s .m - 1) * s .side ⌝ }
 {
     let before = s.m - 1;
     let mut word: u64 = 0;
     let mut i: u64 = 0;
     while i < before {
-        word = roll(s, word, seq[i as usize]);
+        let place = from + i;
+        word = roll(s, word, seq[place as usize]);
         i += 1;
     }
     word
 }
 
-// What a scan has read up to a window: the m-mer read last; the m-mers go by blocks of a window's width, and the window begins so far behind
-// the start of a block; the least stamp of the m-mers read after that block; and the position of the window's vigemin.
-struct Reading {
-    word: u64,
-    block: u64,
-    at: u64,
-    run: u64,
-    position: u64,
-}
-
-// Reads the first window.
-fn begin(s: Settings, seq: &[u8], ring: &mut [u64; 32]) -> Reading
-    requires { ⌜ Readable s (now seq) ⌝ }
-    requires { ⌜ Filled (s .side) (s .width) (values (s .m) (s .key) (spelled (now seq))) 0 0 (now ring) ⌝ }
-    ensures { λ r. ⌜ Read s (now (seq .entry)) r (now (ring .exit)) ⌝ }
-    ensures { λ r. ⌜ r .block + r .at ≡ 0 ⌝ }
+// Reads a window into an empty ring, the stamps of its m-mers, and answers the m-mer read last.
+fn fill(s: Settings, seq: &[u8], from: u64, ring: &mut [u64; 32]) -> u64
+    requires { ⌜ Beginnable s (now seq) from ⌝ }
+    requires { ⌜ Filled (s .side) (s .width) (values (s .m) (s .key) (spelled (now seq))) from 0 (now ring) ⌝ }
+    ensures { λ r. ⌜ Begun s (now (seq .entry)) from r (s .width) (now (ring .exit)) ⌝ }
 {
-    let before = s.m - 1;
-    let mut word = start(s, seq);
-    let mut run: u64 = TOP;
+    let before = from + s.m - 1;
+    let mut word = start(s, seq, from);
     let mut at: u64 = 0;
     while at < s.width {
         let place = before + at;
         let mer = next_mer(s, word, seq[place as usize], at);
         word = mer.word;
-        run = powers::lesser(run, mer.stamp);
         ring[at as usize] = mer.stamp;
         at += 1;
     }
-    suffixes(s.width, ring);
-    let position = run & (s.side - 1);
-    Reading {
-        word,
+    word
+}
+
+// What a run of windows has read up to a window: the m-mer read last; the least stamp of the m-mers read after the window's block; and the position of
+// the window's vigemin.
+struct Run {
+    word: u64,
+    least: u64,
+    position: u64,
+}
+
+// Two runs of windows that are read side by side, so that neither waits for the other's minima. The m-mers of each go by blocks of a window's width;
+// the left run's block starts at `block`, the right run's so far behind it as the run begins, and both windows begin `at` behind the start of theirs.
+struct Runs {
+    block: u64,
+    at: u64,
+    left: Run,
+    right: Run,
+}
+
+// Reads the first window of each run; the right one begins at a window.
+fn begin(s: Settings, seq: &[u8], from: u64, left: &mut [u64; 32], right: &mut [u64; 32]) -> Runs
+    requires { ⌜ Beginnable s (now seq) from ⌝ }
+    requires { ⌜ Filled (s .side) (s .width) (values (s .m) (s .key) (spelled (now seq))) 0 0 (now left) ⌝ }
+    requires { ⌜ Filled (s .side) (s .width) (values (s .m) (s .key) (spelled (now seq))) from 0 (now right) ⌝ }
+    ensures { λ r. ⌜ ReadBoth s (now (seq .entry)) from r (now (left .exit)) (now (right .exit)) ⌝ }
+    ensures { λ r. ⌜ r .block + r .at ≡ 0 ⌝ }
+{
+    let word = fill(s, seq, 0, left);
+    let other = fill(s, seq, from, right);
+    suffixes(s.width, left, right);
+    let mask = s.side - 1;
+    let position = left[0] & mask;
+    let behind = from + (right[0] & mask);
+    Runs {
         block: 0,
         at: 0,
-        run: TOP,
-        position,
+        left: Run {
+            word,
+            least: TOP,
+            position,
+        },
+        right: Run {
+            word: other,
+            least: TOP,
+            position: behind,
+        },
     }
 }
 
 // Where a whole block was read after the last one, it becomes the last one.
-fn turned(s: Settings, r: Reading, ring: &mut [u64; 32]) -> Reading
-    requires { ⌜ Turnable s r (now ring) ⌝ }
-    ensures { λ t. ⌜ Turned s r (now (ring .entry)) t (now (ring .exit)) ⌝ }
+fn turned(s: Settings, r: Runs, left: &mut [u64; 32], right: &mut [u64; 32]) -> Runs
+    requires { ⌜ Turnable s r (now left) (now right) ⌝ }
+    ensures { λ t. ⌜ Turned s r (now (left .entry)) (now (right .entry)) t (now (left .exit)) (now (right .exit)) ⌝ }
 {
     if r.at == s.width {
-        suffixes(s.width, ring);
+        suffixes(s.width, left, right);
         let block = r.block + s.width;
-        return Reading {
-            word: r.word,
+        return Runs {
             block,
             at: 0,
-            run: TOP,
-            position: r.position,
+            left: Run {
+                word: r.left.word,
+                least: TOP,
+                position: r.left.position,
+            },
+            right: Run {
+                word: r.right.word,
+                least: TOP,
+                position: r.right.position,
+            },
         };
     }
     r
 }
 
-// Reads one letter more, which stands at a place of the sequence, where the block has m-mers left to be read after it.
-fn step(s: Settings, r: Reading, seq: &[u8], place: u64, ring: &mut [u64; 32]) -> Reading
-    requires { ⌜ Steppable s r (now seq) place (now ring) ⌝ }
-    ensures { λ t. ⌜ Read s (now (seq .entry)) t (now (ring .exit)) ⌝ }
-    ensures { λ t. ⌜ t .block + t .at ≡ suc (r .block + r .at) ⌝ }
+// Reads one letter more of a run, which stands at a place of the sequence, where the block has m-mers left to be read after it.
+fn step(
+    s: Settings,
+    block: u64,
+    at: u64,
+    r: Run,
+    seq: &[u8],
+    place: u64,
+    ring: &mut [u64; 32],
+) -> Run
+    requires { ⌜ Steppable s block at r (now seq) place (now ring) ⌝ }
+    ensures { λ t. ⌜ Read s (now (seq .entry)) block (at + 1) t (now (ring .exit)) ⌝ }
 {
-    let at = r.at;
     let mer = next_mer(s, r.word, seq[place as usize], at);
     ring[at as usize] = mer.stamp;
     let far = mer.stamp + s.width;
-    let run = powers::lesser(r.run, far);
+    let least = powers::lesser(r.least, far);
     let next = at + 1;
-    let least = powers::lesser(ring[next as usize], run);
-    let position = r.block + (least & (s.side - 1));
-    Reading {
+    let lowest = powers::lesser(ring[next as usize], least);
+    let position = block + (lowest & (s.side - 1));
+    Run {
         word: mer.word,
-        block: r.block,
-        at: next,
-        run,
+        least,
         position,
     }
 }
 
-// Reads the window after the last one.
-fn next_window(s: Settings, r: Reading, seq: &[u8], place: u64, ring: &mut [u64; 32]) -> Reading
+// Reads the window after the last one of each run; the left one ends in the letter at a place.
+fn next_windows(
+    s: Settings,
+    r: Runs,
+    from: u64,
+    seq: &[u8],
+    place: u64,
+    left: &mut [u64; 32],
+    right: &mut [u64; 32],
+) -> Runs
     requires { ⌜ Readable s (now seq) ⌝ }
-    requires { ⌜ Read s (now seq) r (now ring) ⌝ }
-    requires { ⌜ (place ≡ r .block + r .at + s .k) × (place < length (now seq)) ⌝ }
-    ensures { λ t. ⌜ Read s (now (seq .entry)) t (now (ring .exit)) ⌝ }
+    requires { ⌜ ReadBoth s (now seq) from r (now left) (now right) ⌝ }
+    requires { ⌜ (place ≡ r .block + r .at + s .k) × (place + from < length (now seq)) ⌝ }
+    ensures { λ t. ⌜ ReadBoth s (now (seq .entry)) from t (now (left .exit)) (now (right .exit)) ⌝ }
     ensures { λ t. ⌜ t .block + t .at ≡ suc (r .block + r .at) ⌝ }
 {
-    let t = turned(s, r, ring);
-    step(s, t, seq, place, ring)
+    let t = turned(s, r, left, right);
+    let block = t.block;
+    let at = t.at;
+    let near = t.left;
+    let far = t.right;
+    let behind = block + from;
+    let end = place + from;
+    let next = at + 1;
+    let one = step(s, block, at, near, seq, place, left);
+    let other = step(s, behind, at, far, seq, end, right);
+    Runs {
+        block,
+        at: next,
+        left: one,
+        right: other,
+    }
 }
 
-// Writes the position for each window at the front of the room.
+// Writes the position for each window at the front of the room. Where the number of windows is odd, the runs share the one in the middle.
 fn write_positions(s: Settings, seq: &[u8], windows: u64, room: &mut [u32])
     requires { ⌜ Writable s (now seq) windows 1 (now room) ⌝ }
     ensures { λ _. ⌜ now (room .exit) ≡ over (positionsOf s (now (seq .entry))) (now (room .entry)) ⌝ }
 {
-    let mut ring: [u64; 32] = [TOP; 32];
-    let mut r = begin(s, seq, &mut ring);
-    room[0] = r.position as u32;
-    let mut i: u64 = 1;
-    while i < windows {
-        let place = i + s.k - 1;
-        r = next_window(s, r, seq, place, &mut ring);
-        room[i as usize] = r.position as u32;
+    let mut left: [u64; 32] = [TOP; 32];
+    let mut right: [u64; 32] = [TOP; 32];
+    let half = (windows + 1) / 2;
+    let from = windows - half;
+    let mut r = begin(s, seq, from, &mut left, &mut right);
+    let mut i: u64 = 0;
+    loop {
+        room[i as usize] = r.left.position as u32;
+        let to = from + i;
+        room[to as usize] = r.right.position as u32;
         i += 1;
+        if i == half {
+            return;
+        }
+        let place = i + s.k - 1;
+        r = next_windows(s, r, from, seq, place, &mut left, &mut right);
     }
 }
 
@@ -250,16 +321,23 @@ fn write_bytes(s: Settings, seq: &[u8], windows: u64, room: &mut [u8])
     requires { ⌜ Writable s (now seq) windows 4 (now room) ⌝ }
     ensures { λ _. ⌜ now (room .exit) ≡ over (asBytes (positionsOf s (now (seq .entry)))) (now (room .entry)) ⌝ }
 {
-    let mut ring: [u64; 32] = [TOP; 32];
-    let mut r = begin(s, seq, &mut ring);
-    put(r.position, 0, room);
-    let mut i: u64 = 1;
-    while i < windows {
-        let place = i + s.k - 1;
-        r = next_window(s, r, seq, place, &mut ring);
+    let mut left: [u64; 32] = [TOP; 32];
+    let mut right: [u64; 32] = [TOP; 32];
+    let half = (windows + 1) / 2;
+    let from = windows - half;
+    let mut r = begin(s, seq, from, &mut left, &mut right);
+    let mut i: u64 = 0;
+    loop {
         let to = 4 * i;
-        put(r.position, to as usize, room);
+        put(r.left.position, to as usize, room);
+        let behind = 4 * from + to;
+        put(r.right.position, behind as usize, room);
         i += 1;
+        if i == half {
+            return;
+        }
+        let place = i + s.k - 1;
+        r = next_windows(s, r, from, seq, place, &mut left, &mut right);
     }
 }
 

@@ -1,11 +1,11 @@
 -- `scans::start` meets its contract. The loop's invariant: the word is that of the letters passed. The measure is how many are left.
 -- Assumes nothing.
-use Prim.Native.Nat.{ℕ, _-_, _*_, _≤_, _<_}
-use mathlib.Core.Path.{_≡_, sym, ap, _∙_}
+use Prim.Native.Nat.{ℕ, _+_, _-_, _*_, _≤_, _<_}
+use mathlib.Core.Path.{_≡_, refl, sym, ap, _∙_}
 use native.Mathlib.Nat.{zero-mod, zero-mul}
 use native.Mathlib.Numerals.{add-one}
 use native.Mathlib.Omega.{arith}
-use lib.ListN.{length}
+use lib.ListN.{length, drop}
 use Rattle.definitions.specs.Words.{spelled}
 use Rattle.laws.specs.Rolls.{rolled}
 use Rattle.scans.proofs.Letters.{rolled-on, letter-read}
@@ -13,32 +13,35 @@ use Rattle.scans.proofs.start.Statement.{statement}
 use Rattle.scans.proofs.start.Tie as tie
 
 abbrev Inv-loop : tie.InvT-loop
-Inv-loop s seq before word₀ i₀ word i = (i ≤ s .m - 1) × (word ≡ rolled (s .m) (spelled seq) i * s .side)
+Inv-loop s seq from before word₀ i₀ word i = (i ≤ s .m - 1) × (word ≡ rolled (s .m) (drop from (spelled seq)) i * s .side)
 
 abbrev μ-loop : tie.MeasureT-loop
-μ-loop s seq before word₀ i₀ word i = s .m - i
+μ-loop s seq from before word₀ i₀ word i = s .m - i
 
 sub-before : tie.Need-sub-before Inv-loop μ-loop
-sub-before c = c .before .before .pre .prepared .mSome
+sub-before c = c .before .before .pre .readable .prepared .mSome
 
 loop-holds : tie.Need-loop-holds Inv-loop μ-loop
-loop-holds c =
-    let s = c .before .before .args .s in
-    (omega arith, sym (rw (zero-mod, zero-mul)))
+loop-holds c = (omega arith, sym (rw (zero-mod, zero-mul)))
+
+add-place : tie.Need-add-place Inv-loop μ-loop
+add-place c =
+    let a = c .before .before .before .before .pre in
+    omega (arith, a .inside, a .readable .short, a .readable .prepared .kIs, a .readable .prepared .wide)
 
 shared-slice-read-roll : tie.Need-shared-slice-read-roll Inv-loop μ-loop
 shared-slice-read-roll c =
     let a = c .before .before .before .before .before .pre in
-    omega (arith, a .long, a .prepared .kIs, a .prepared .wide)
+    omega (arith, a .inside, a .readable .prepared .kIs, a .readable .prepared .wide)
 
 roll-requires : tie.Need-roll-requires Inv-loop μ-loop
 roll-requires c κs =
     let start = c .before .before .before .before .before in
-    rolled-on (start .pre .prepared) (spelled (start .args .seq .now)) (c .before .before .loop .i) (c .before .before .loop .inv .1)
+    rolled-on (start .pre .readable .prepared) (drop (start .args .from) (spelled (start .args .seq .now))) (c .before .before .loop .i) (c .before .before .loop .inv .1)
 
 add-i : tie.Need-add-i Inv-loop μ-loop
 add-i c =
-    let p = c .before .before .before .before .before .before .pre .prepared in
+    let p = c .before .before .before .before .before .before .pre .readable .prepared in
     omega (arith, p .kIs, p .kFew, p .wide)
 
 loop-less : tie.Need-loop-less Inv-loop μ-loop
@@ -49,15 +52,17 @@ loop-again c =
     let start = c .before .before .before .before .before .before in
     let at = c .before .before .before .loop in
     let s = start .args .s in
+    let from = start .args .from in
     let seq = start .args .seq .now in
-    let a = start .pre in
-    let h : at .i < length seq = omega (arith, a .long, a .prepared .kIs, a .prepared .wide) in
-    (omega arith, c .roll .ensures (rolled (s .m) (spelled seq) (at .i)) (at .inv .1) ∙ rw add-one (ap (λ (n : ℕ). n * s .side) (letter-read s seq a (at .i) h)))
+    let a = start .pre .readable in
+    let h : from + at .i < length seq = omega (arith, start .pre .inside, a .prepared .kIs, a .prepared .wide) in (
+      omega arith,
+      c .roll .ensures (rolled (s .m) (drop from (spelled seq)) (at .i)) (at .inv .1) ∙ rw add-one (ap (λ (n : ℕ). n * s .side) (letter-read s seq a from (at .i) refl h)),
+    )
 
 returns : tie.Need-returns Inv-loop μ-loop
 returns c =
-    let start = c .before .before .before .before in
-    let end : c .before .loop .i ≡ start .args .s .m - 1 = omega arith in
+    let end : c .before .loop .i ≡ c .before .before .before .before .args .s .m - 1 = omega arith in
     rw end at (c .before .loop .inv .1)
 
 pub start-spec : {M : Type 1} → statement M
@@ -68,6 +73,7 @@ start-spec =
     μ-loop
     sub-before
     loop-holds
+    add-place
     shared-slice-read-roll
     roll-requires
     add-i

@@ -48,14 +48,14 @@ sub-position c = search needs
 
 add-position : tie.Need-add-position
 add-position c =
-    let start = c .before .before .before .before .before .before .before .before .before .before in
+    let start = c .before .before .before .before .before .before .before .before .before in
     let a = start .pre .readable in
-    omega (arith, block-inside (start .args .s) (start .args .seq .now) a (start .pre .read), a .short, a .prepared .sideFew, and-le-r (c .before .before .lesser2 .result) (start .args .s .side - 1))
+    omega (arith, block-inside (start .args .s) (start .args .seq .now) a (start .pre .read), a .short, a .prepared .sideFew, and-le-r (c .before .lesser2 .result) (start .args .s .side - 1))
 
 returns : tie.Need-returns
 returns c =
-    let start = c .before .before .before .before .before .before .before .before .before .before in
-    (step-read (start .args .s) (start .args .seq .now) (start .pre .readable) (start .pre) (c .before .before .before .before .before .before .before .next-mer .ensures) (c .before .before .before .before .lesser .ensures) {least = c .before .before .lesser2 .result} (c .before .before .lesser2 .ensures), omega arith)
+    let start = c .before .before .before .before .before .before .before .before .before in
+    step-read (start .args .s) (start .args .seq .now) (start .pre .readable) (start .pre) (c .before .before .before .before .before .before .next-mer .ensures) (c .before .before .before .lesser .ensures) {lowest = c .before .lesser2 .result} (c .before .lesser2 .ensures)
 
 pub step-spec : {M : Type 1} → statement M
 step-spec =

@@ -1,45 +1,34 @@
--- `scans::turned` meets its contract: a block that was read whole becomes the last one, and otherwise nothing changes.
+-- `scans::turned` meets its contract: blocks that were read whole become the last ones, and otherwise nothing changes.
 -- Assumes nothing.
-use Prim.Native.Nat.{ℕ, _^_}
-use mathlib.Core.List.{List}
+use Prim.Native.Nat.{_+_}
 use mathlib.Core.Path.{_≡_}
 use native.Mathlib.Omega.{arith}
 use borrow.Author.Needs.{needs}
-use Rattle.definitions.specs.Words.{spelled}
-use Rattle.laws.specs.Rolls.{values}
-use Rattle.scans.specs.declared.Settings.{Settings}
-use Rattle.scans.specs.declared.Reading.{Reading}
-use Rattle.scans.specs.Readings.{Entries, Minima, Turnable}
-use Rattle.scans.proofs.Blocks.{filled-entries, minima-filled}
-use Rattle.scans.proofs.Letters.{mers}
-use Rattle.scans.proofs.Windows.{block-inside, turn-read}
+use Rattle.scans.proofs.Windows.{block-inside, whole-entries, turn-read}
 use Rattle.scans.proofs.turned.Statement.{statement}
 use Rattle.scans.proofs.turned.Tie as tie
 
--- a block that was read whole can be turned into suffixes
-whole : (s : Settings) (r : Reading) (ring : List ℕ) → Turnable s r ring → r .at ≡ s .width → Entries (s .width) ring
-whole s r ring t e =
-    let vs = values (s .m) (s .key) (spelled (t .seq)) in
-    let v = mers s (t .seq) (t .readable) in
-    let m : Minima (s .side) (s .width) vs (r .block) (s .width) (r .run) ring = rw e at (t .read .minima) in
-    filled-entries (s .side) (s .width) (4 ^ s .m) vs v (m .read) (minima-filled (s .side) (s .width) (4 ^ s .m) vs v m)
-
 suffixes-requires : tie.Need-suffixes-requires
 suffixes-requires c κs =
-    let start = c .before .before .before .before in
-    whole (start .args .s) (start .args .r) (start .args .ring .now) (start .pre) (omega arith)
+    let start = c .before .before .before .before .before in
+    let t = start .pre in
+    let whole : start .args .r .at ≡ start .args .s .width = omega arith in
+    (whole-entries (start .args .s) (t .seq) (t .readable) whole (t .read .one), whole-entries (start .args .s) (t .seq) (t .readable) whole (t .read .other))
 
 add-block : tie.Need-add-block
 add-block c =
-    let start = c .before .before .before .before .before .before .before in
+    let start = c .before .before .before .before .before .before .before .before in
     let t = start .pre in
-    omega (arith, block-inside (start .args .s) (t .seq) (t .readable) (t .read), t .readable .short, t .readable .prepared .kIs, t .readable .prepared .kFew)
+    omega (arith, block-inside (start .args .s) (t .seq) (t .readable) (t .read .one), t .readable .short, t .readable .prepared .kIs, t .readable .prepared .kFew)
 
 returns : tie.Need-returns
 returns c =
-    let start = c .before .before .before .before .before .before .before in
+    let start = c .before .before .before .before .before .before .before .before in
+    let s = start .args .s in
+    let f = c .before .before .suffixes .ensures in
+    let whole : start .args .r .at ≡ s .width = omega arith in
     record {
-      read = λ seq a d. turn-read (start .args .s) seq a (omega arith) (c .before .before .suffixes .ensures) d;
+      read = λ seq from a d. record { one = turn-read s seq a whole (omega arith) (f .0) (d .one); other = turn-read s seq a whole (omega arith) (f .1) (d .other) };
       inside = start .pre .readable .prepared .wide;
       same = omega arith;
     }

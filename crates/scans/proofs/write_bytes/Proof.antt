@@ -1,103 +1,127 @@
--- `scans::write_bytes` meets its contract. The loop's invariant: the first i windows were read and their positions written. The measure is
--- how many windows are left.
+-- `scans::write_bytes` meets its contract. The loop's invariant: each run has read its window i and written the positions for those before it.
+-- The measure is how many windows of a run are left.
 -- Assumes nothing.
-use Prim.Native.Nat.{ℕ, _-_, _*_, _≤_}
-use mathlib.Core.List.{List}
+use Prim.Native.Nat.{_+_, _-_, _*_, _/_, _≤_, _<_}
 use mathlib.Core.Path.{_≡_, refl, sym, _∙_}
-use native.Mathlib.Numerals.{add-one}
 use native.Mathlib.Omega.{arith}
 use lib.ListN.{length}
+use Rattle.definitions.specs.Lists.{over}
 use Rattle.definitions.specs.Outcomes.{asBytes}
-use Rattle.laws.specs.Rooms.{overTo, overTo-bytes, overTo-all, length-asBytes}
 use Rattle.scans.specs.Readings.{positionsOf}
-use Rattle.scans.proofs.Windows.{ready, Reached, length-positions, reached-first, next-place, reached-next, reached-position}
+use Rattle.scans.proofs.Rooms.{Laid, bytes-laid, laid-none, laid-more, laid-all}
+use Rattle.scans.proofs.Windows.{behind, begins, Reached, length-positions, reached-first, next-place, reached-next, reached-positions}
 use Rattle.scans.proofs.write_bytes.Statement.{statement}
 use Rattle.scans.proofs.write_bytes.Tie as tie
 
 abbrev Inv-loop : tie.InvT-loop
-Inv-loop s seq windows room₀ ring₀ r₀ i₀ room ring r i =
-    Reached s seq windows i r ring
+Inv-loop s seq windows room₀ left₀ right₀ half from r₀ i₀ room left right r i =
+    Reached s seq windows i r left right
+    × Laid (over (asBytes (positionsOf s seq)) room₀) 4 windows (behind windows) i room
     × (length room ≡ length room₀)
-    × ((old : List ℕ) → room₀ ≡ overTo 4 (asBytes (positionsOf s seq)) old → 4 * windows ≤ length old → room ≡ overTo (4 * i) (asBytes (positionsOf s seq)) old)
 
 abbrev μ-loop : tie.MeasureT-loop
-μ-loop s seq windows room₀ ring₀ r₀ i₀ room ring r i = windows - i
+μ-loop s seq windows room₀ left₀ right₀ half from r₀ i₀ room left right r i = windows - i
+
+add-half : tie.Need-add-half Inv-loop μ-loop
+add-half c =
+    let w = c .before .before .pre in
+    omega (arith, w .all, w .readable .short)
+
+sub-from : tie.Need-sub-from Inv-loop μ-loop
+sub-from c = omega (arith, c .before .before .pre .some)
 
 begin-requires : tie.Need-begin-requires Inv-loop μ-loop
 begin-requires c κs =
-    let start = c .before .before .before in
-    ready (start .args .s) (start .args .seq .now) (start .pre .readable)
-
-put-requires : tie.Need-put-requires Inv-loop μ-loop
-put-requires c κs =
-    let w = c .before .before .before .before .before .pre in
-    omega (arith, w .some, w .fits)
+    let start = c .before .before .before .before in
+    begins (start .pre)
 
 loop-holds : tie.Need-loop-holds Inv-loop μ-loop
 loop-holds c =
-    let start = c .before .before .before .before .before .before .before .before in
-    (reached-first (start .pre) (c .before .before .before .before .begin .ensures .0) (c .before .before .before .before .begin .ensures .1), refl, λ old e h. e)
-
-add-place : tie.Need-add-place Inv-loop μ-loop
-add-place c =
-    let w = c .before .before .before .before .before .before .before .before .before .before .before .pre in
-    omega (arith, w .all, w .readable .short, w .readable .prepared .kFew)
-
-sub-place : tie.Need-sub-place Inv-loop μ-loop
-sub-place c =
-    let at = c .before .before .loop in
-    omega (arith, at .inv .0 .last)
-
-next-window-requires : tie.Need-next-window-requires Inv-loop μ-loop
-next-window-requires c κs =
-    let start = c .before .before .before .before .before .before .before .before .before .before .before .before in
-    let at = c .before .before .before .loop in
-    (start .pre .readable, (at .inv .0 .read, next-place (start .pre) (at .inv .0) (omega arith)))
+    let start = c .before .before .before .before .before in
+    let w = start .pre in
+    let ps = positionsOf (start .args .s) (start .args .seq .now) in
+    (reached-first w (c .begin .ensures .0) (c .begin .ensures .1), laid-none (bytes-laid ps (length-positions w)) (start .args .room .now) (w .fits) (behind (start .args .windows)), refl)
 
 mul-to : tie.Need-mul-to Inv-loop μ-loop
 mul-to c =
-    let w = c .before .before .before .before .before .before .before .before .before .before .before .before .before .pre in
+    let w = c .before .before .before .before .before .before .pre in
+    omega (arith, w .all, w .readable .short, c .loop .inv .0 .within)
+
+put-requires : tie.Need-put-requires Inv-loop μ-loop
+put-requires c κs =
+    let at = c .before .loop in
+    omega (arith, c .before .before .before .before .before .before .before .pre .fits, at .inv .0 .within, at .inv .2)
+
+mul-behind : tie.Need-mul-behind Inv-loop μ-loop
+mul-behind c =
+    let w = c .before .before .before .before .before .before .before .before .before .before .pre in
     omega (arith, w .all, w .readable .short)
+
+add-behind : tie.Need-add-behind Inv-loop μ-loop
+add-behind c =
+    let w = c .before .before .before .before .before .before .before .before .before .before .pre in
+    omega (arith, w .all, w .readable .short, c .before .before .before .before .loop .inv .0 .within)
 
 put-requires-2 : tie.Need-put-requires-2 Inv-loop μ-loop
 put-requires-2 c κs =
-    let start = c .before .before .before .before .before .before .before .before .before .before .before .before .before .before in
     let at = c .before .before .before .before .before .loop in
-    omega (arith, start .pre .fits, at .inv .1, c .before .before .before .before .before .before .before .before .put .kept .1 .1 .0)
+    omega (arith, c .before .before .before .before .before .before .before .before .before .before .before .pre .fits, at .inv .0 .within, at .inv .2, c .before .before .before .put .kept .1 .1 .0)
 
 add-i : tie.Need-add-i Inv-loop μ-loop
 add-i c =
-    let w = c .before .before .before .before .before .before .before .before .before .before .before .before .before .before .before .before .before .pre in
-    omega (arith, w .all, w .readable .short)
+    let w = c .before .before .before .before .before .before .before .before .before .before .before .before .before .before .pre in
+    omega (arith, w .all, w .readable .short, c .before .before .before .before .before .before .before .before .loop .inv .0 .within)
 
-loop-less : tie.Need-loop-less Inv-loop μ-loop
-loop-less c = omega arith
-
-loop-again : tie.Need-loop-again Inv-loop μ-loop
-loop-again c =
-    let start = c .before .before .before .before .before .before .before .before .before .before .before .before .before .before .before .before .before in
-    let at = c .before .before .before .before .before .before .before .before .loop in
+-- each run has written one position more
+wrote : (c : tie.After-put2 Inv-loop μ-loop)
+    → (let start = c .before .before .before .before .before .before .before .before .before .before .before .before in
+    let ps = positionsOf (start .args .s) (start .args .seq .now) in
+    Laid (over (asBytes ps) (start .args .room .now)) 4 (start .args .windows) (behind (start .args .windows)) (c .before .before .before .before .before .before .loop .i + 1) (c .put2 .last .1 .1 .0))
+wrote c =
+    let start = c .before .before .before .before .before .before .before .before .before .before .before .before in
+    let at = c .before .before .before .before .before .before .loop in
     let w = start .pre in
     let ps = positionsOf (start .args .s) (start .args .seq .now) in
-    let now = reached-next w (at .inv .0) (omega arith) (c .before .before .before .before .next-window .ensures .0) (c .before .before .before .before .next-window .ensures .1) in (
-      now,
-      c .before .before .put2 .kept .1 .1 .0 ∙ at .inv .1,
-      λ old e h. c .before .before .put2 .ensures ∙ rw add-one (overTo-bytes ps old (at .i) (at .inv .2 old e h) (reached-position w now (sym (add-one (at .i)))) (rw (length-positions w) (omega arith)) (rw (length-positions w) h)),
-    )
+    let known = reached-positions w (at .inv .0) in
+    let near : 4 * at .i ≡ 4 * at .i = refl in
+    let far : 4 * behind (start .args .windows) + 4 * at .i ≡ 4 * (behind (start .args .windows) + at .i) = omega arith in
+    rw (c .put2 .ensures, c .before .before .before .before .put .ensures)
+    (laid-more (bytes-laid ps (length-positions w)) (start .args .room .now) (w .fits) (at .inv .1) (omega (arith, at .inv .0 .within)) near far (known .0) (known .1))
 
 same-length : tie.Need-same-length Inv-loop μ-loop
-same-length c = c .before .loop .inv .1 ∙ c .before .before .before .before .put .kept .1 .1 .0
+same-length c = c .before .before .before .put2 .kept .1 .1 .0 ∙ c .before .before .before .before .before .before .before .put .kept .1 .1 .0 ∙ c .before .before .before .before .before .before .before .before .before .loop .inv .2
 
 returns : tie.Need-returns Inv-loop μ-loop
 returns c =
-    let start = c .before .before .before .before .before .before .before .before .before .before in
-    let at = c .before .loop in
+    let start = c .before .before .before .before .before .before .before .before .before .before .before .before .before .before .before in
     let w = start .pre in
     let ps = positionsOf (start .args .s) (start .args .seq .now) in
-    let room = start .args .room .now in
-    let g = c .before .before .before .before .before .before .begin in
-    let first = c .before .before .before .before .put .ensures ∙ overTo-bytes ps room 0 refl (reached-position w (reached-first w (g .ensures .0) (g .ensures .1)) refl) (rw (length-positions w) (w .some)) (rw (length-positions w) (w .fits)) in
-    overTo-all (asBytes ps) room {i = 4 * at .i} (at .inv .2 room first (w .fits)) (rw (length-asBytes, length-positions w) (omega (arith, at .inv .0 .within)))
+    laid-all (bytes-laid ps (length-positions w)) (start .args .room .now) (w .fits) (wrote (c .before .before .before)) (omega arith) (omega arith)
+
+add-place : tie.Need-add-place Inv-loop μ-loop
+add-place c =
+    let w = c .before .before .before .before .before .before .before .before .before .before .before .before .before .before .before .before .pre in
+    omega (arith, w .all, w .readable .short, w .readable .prepared .kFew, c .before .before .before .before .before .before .before .before .before .before .loop .inv .0 .within)
+
+sub-place : tie.Need-sub-place Inv-loop μ-loop
+sub-place c = omega arith
+
+next-windows-requires : tie.Need-next-windows-requires Inv-loop μ-loop
+next-windows-requires c κs =
+    let w = c .before .before .before .before .before .before .before .before .before .before .before .before .before .before .before .before .before .before .pre in
+    let at = c .before .before .before .before .before .before .before .before .before .before .before .before .loop in
+    (w .readable, (at .inv .0 .read, next-place w (at .inv .0) (c .before .before .before .if1 .left)))
+
+loop-less : tie.Need-loop-less Inv-loop μ-loop
+loop-less c = omega (arith, c .before .before .before .before .before .before .before .before .before .before .before .before .before .loop .inv .0 .within)
+
+loop-again : tie.Need-loop-again Inv-loop μ-loop
+loop-again c =
+    let at = c .before .before .before .before .before .before .before .before .before .before .before .before .before .loop in (
+      reached-next (c .before .before .before .before .before .before .before .before .before .before .before .before .before .before .before .before .before .before .before .pre) (at .inv .0) (c .before .before .before .before .if1 .left) (c .next-windows .ensures .0) (c .next-windows .ensures .1),
+      wrote (c .before .before .before .before .before .before .before),
+      c .before .before .before .before .before .before .before .put2 .kept .1 .1 .0 ∙ c .before .before .before .before .before .before .before .before .before .before .before .put .kept .1 .1 .0 ∙ at .inv .2,
+    )
 
 pub write-bytes-spec : {M : Type 1} → statement M
 write-bytes-spec =
@@ -105,16 +129,20 @@ write-bytes-spec =
     (tie.spec
     Inv-loop
     μ-loop
+    add-half
+    sub-from
     begin-requires
-    put-requires
     loop-holds
-    add-place
-    sub-place
-    next-window-requires
     mul-to
+    put-requires
+    mul-behind
+    add-behind
     put-requires-2
     add-i
-    loop-less
-    loop-again
     same-length
-    returns)
+    returns
+    add-place
+    sub-place
+    next-windows-requires
+    loop-less
+    loop-again)

@@ -1,115 +1,136 @@
--- `scans::write_positions` meets its contract. The loop's invariant: the first i windows were read and their positions written. The measure
--- is how many windows are left.
+-- `scans::write_positions` meets its contract. The loop's invariant: each run has read its window i and written the positions for those before it.
+-- The measure is how many windows are left.
 -- Assumes nothing.
-use Prim.Native.Nat.{ℕ, _-_, _≤_}
-use mathlib.Core.List.{List}
-use mathlib.Core.Path.{_≡_, refl, sym, _∙_}
-use native.Mathlib.Numerals.{add-one}
+use Prim.Native.Nat.{_+_, _-_, _*_}
+use mathlib.Core.Path.{_≡_, refl, _∙_}
 use native.Mathlib.Omega.{arith}
 use lib.ListN.{length, set, length-set}
-use Rattle.laws.specs.Rooms.{overTo, overTo-more, overTo-all}
+use Rattle.definitions.specs.Lists.{over}
 use Rattle.scans.specs.Readings.{positionsOf}
-use Rattle.scans.proofs.Windows.{ready, Reached, position-small, length-positions, reached-first, next-place, reached-next, reached-position}
+use Rattle.scans.proofs.Rooms.{Laid, positions-laid, laid-none, laid-more, laid-all}
+use Rattle.scans.proofs.Windows.{behind, begins, Reached, position-small, length-positions, reached-first, next-place, reached-next, reached-positions}
 use Rattle.scans.proofs.write_positions.Statement.{statement}
 use Rattle.scans.proofs.write_positions.Tie as tie
 
 abbrev Inv-loop : tie.InvT-loop
-Inv-loop s seq windows room₀ ring₀ r₀ i₀ room ring r i =
-    Reached s seq windows i r ring
+Inv-loop s seq windows room₀ left₀ right₀ half from r₀ i₀ room left right r i =
+    Reached s seq windows i r left right
+    × Laid (over (positionsOf s seq) room₀) 1 windows (behind windows) i room
     × (length room ≡ length room₀)
-    × ((old : List ℕ) → room₀ ≡ overTo 1 (positionsOf s seq) old → windows ≤ length old → room ≡ overTo i (positionsOf s seq) old)
 
 abbrev μ-loop : tie.MeasureT-loop
-μ-loop s seq windows room₀ ring₀ r₀ i₀ room ring r i = windows - i
+μ-loop s seq windows room₀ left₀ right₀ half from r₀ i₀ room left right r i = windows - i
+
+add-half : tie.Need-add-half Inv-loop μ-loop
+add-half c =
+    let w = c .before .before .pre in
+    omega (arith, w .all, w .readable .short)
+
+sub-from : tie.Need-sub-from Inv-loop μ-loop
+sub-from c = omega (arith, c .before .before .pre .some)
 
 begin-requires : tie.Need-begin-requires Inv-loop μ-loop
-begin-requires c κs =
-    let start = c .before .before .before in
-    ready (start .args .s) (start .args .seq .now) (start .pre .readable)
-
-cast-room : tie.Need-cast-room Inv-loop μ-loop
-cast-room c =
-    let start = c .before .before .before .before .before in
-    omega (arith, position-small (start .args .s) (start .args .seq .now) (start .pre .readable) (c .before .begin .ensures .0))
-
-slice-write-room : tie.Need-slice-write-room Inv-loop μ-loop
-slice-write-room c =
-    let w = c .before .before .before .before .before .pre in
-    omega (arith, w .some, w .fits)
+begin-requires c κs = begins (c .before .before .before .before .pre)
 
 loop-holds : tie.Need-loop-holds Inv-loop μ-loop
 loop-holds c =
     let start = c .before .before .before .before .before in
-    (reached-first (start .pre) (c .before .begin .ensures .0) (c .before .begin .ensures .1), refl, λ old e h. e)
+    let w = start .pre in
+    let ps = positionsOf (start .args .s) (start .args .seq .now) in
+    (reached-first w (c .begin .ensures .0) (c .begin .ensures .1), laid-none (positions-laid ps (length-positions w)) (start .args .room .now) (w .fits) (behind (start .args .windows)), refl)
 
-add-place : tie.Need-add-place Inv-loop μ-loop
-add-place c =
-    let w = c .before .before .before .before .before .before .before .before .pre in
-    omega (arith, w .all, w .readable .short, w .readable .prepared .kFew)
-
-sub-place : tie.Need-sub-place Inv-loop μ-loop
-sub-place c =
-    let at = c .before .before .loop in
-    omega (arith, at .inv .0 .last)
-
-next-window-requires : tie.Need-next-window-requires Inv-loop μ-loop
-next-window-requires c κs =
-    let start = c .before .before .before .before .before .before .before .before .before in
-    let at = c .before .before .before .loop in
-    let place = next-place (start .pre) (at .inv .0) (omega arith) in
-    (start .pre .readable, (at .inv .0 .read, place))
-
-cast-room-2 : tie.Need-cast-room-2 Inv-loop μ-loop
-cast-room-2 c =
-    let start = c .before .before .before .before .before .before .before .before .before .before .before in
-    omega (arith, position-small (start .args .s) (start .args .seq .now) (start .pre .readable) (c .before .next-window .ensures .0))
+cast-room : tie.Need-cast-room Inv-loop μ-loop
+cast-room c =
+    let start = c .before .before .before .before .before .before .before in
+    omega (arith, position-small (start .args .s) (start .args .seq .now) (start .pre .readable) (c .before .loop .inv .0 .read .one))
 
 mul-room : tie.Need-mul-room Inv-loop μ-loop
 mul-room c =
-    let w = c .before .before .before .before .before .before .before .before .before .before .before .pre in
-    omega (arith, w .all, w .readable .short)
+    let w = c .before .before .before .before .before .before .before .pre in
+    omega (arith, w .all, w .readable .short, c .before .loop .inv .0 .within)
+
+slice-write-room : tie.Need-slice-write-room Inv-loop μ-loop
+slice-write-room c =
+    let at = c .before .loop in
+    omega (arith, c .before .before .before .before .before .before .before .pre .fits, at .inv .0 .within, at .inv .2)
+
+add-to : tie.Need-add-to Inv-loop μ-loop
+add-to c =
+    let w = c .before .before .before .before .before .before .before .pre in
+    omega (arith, w .all, w .readable .short, c .before .loop .inv .0 .within)
+
+cast-room-2 : tie.Need-cast-room-2 Inv-loop μ-loop
+cast-room-2 c =
+    let start = c .before .before .before .before .before .before .before .before in
+    omega (arith, position-small (start .args .s) (start .args .seq .now) (start .pre .readable) (c .before .before .loop .inv .0 .read .other))
+
+mul-room-2 : tie.Need-mul-room-2 Inv-loop μ-loop
+mul-room-2 c =
+    let w = c .before .before .before .before .before .before .before .before .pre in
+    omega (arith, w .all, w .readable .short, c .before .before .loop .inv .0 .within)
 
 slice-write-room-2 : tie.Need-slice-write-room-2 Inv-loop μ-loop
 slice-write-room-2 c =
-    let start = c .before .before .before .before .before .before .before .before .before .before .before in
-    let at = c .before .before .before .before .before .loop in
-    omega (arith, start .pre .fits, at .inv .1, simp length-set at (at .inv .1))
+    let at = c .before .before .loop in
+    omega (arith, c .before .before .before .before .before .before .before .before .pre .fits, at .inv .0 .within, at .inv .2, length-set (at .room) (at .i) (at .r .left .position))
 
 add-i : tie.Need-add-i Inv-loop μ-loop
 add-i c =
-    let w = c .before .before .before .before .before .before .before .before .before .before .before .pre in
-    omega (arith, w .all, w .readable .short)
+    let w = c .before .before .before .before .before .before .before .before .pre in
+    omega (arith, w .all, w .readable .short, c .before .before .loop .inv .0 .within)
 
-loop-less : tie.Need-loop-less Inv-loop μ-loop
-loop-less c = omega arith
-
-loop-again : tie.Need-loop-again Inv-loop μ-loop
-loop-again c =
-    let start = c .before .before .before .before .before .before .before .before .before .before .before in
-    let at = c .before .before .before .before .before .loop in
-    let now = reached-next (start .pre) (at .inv .0) (omega arith) (c .before .next-window .ensures .0) (c .before .next-window .ensures .1) in (
-      now,
-      length-set (at .room) (at .i) (c .before .next-window .result .position) ∙ at .inv .1,
-      λ old e h. rw add-one (overTo-more (positionsOf (start .args .s) (start .args .seq .now)) old 0 (at .inv .2 old e h)
-          (reached-position (start .pre) now (sym (add-one (at .i)))) (rw (length-positions (start .pre)) (omega arith)) (omega arith)),
+-- each run has written one position more
+wrote : (c : tie.At-loop Inv-loop μ-loop)
+    → (let start = c .before .before .before .before .before .before in
+    let at = c .loop in
+    let from = behind (start .args .windows) in
+    let room = set (set (at .room) (at .i) (at .r .left .position)) (from + at .i) (at .r .right .position) in
+    Laid (over (positionsOf (start .args .s) (start .args .seq .now)) (start .args .room .now)) 1 (start .args .windows) from (at .i + 1) room
+    × (length room ≡ length (start .args .room .now)))
+wrote c =
+    let start = c .before .before .before .before .before .before in
+    let at = c .loop in
+    let from = behind (start .args .windows) in
+    let w = start .pre in
+    let ps = positionsOf (start .args .s) (start .args .seq .now) in
+    let known = reached-positions w (at .inv .0) in
+    let one = set (at .room) (at .i) (at .r .left .position) in (
+      laid-more (positions-laid ps (length-positions w)) (start .args .room .now) (w .fits) (at .inv .1) (omega (arith, at .inv .0 .within)) (omega arith) (omega arith) (known .0) (known .1),
+      length-set one (from + at .i) (at .r .right .position) ∙ length-set (at .room) (at .i) (at .r .left .position) ∙ at .inv .2,
     )
 
 same-length : tie.Need-same-length Inv-loop μ-loop
-same-length c =
-    let at = c .before .loop in
-    at .inv .1 ∙ simp length-set
+same-length c = wrote (c .before .before .before) .1
 
 returns : tie.Need-returns Inv-loop μ-loop
 returns c =
-    let start = c .before .before .before .before .before .before .before in
-    let at = c .before .loop in
+    let start = c .before .before .before .before .before .before .before .before .before in
     let w = start .pre in
-    let new = positionsOf (start .args .s) (start .args .seq .now) in
-    let room = start .args .room .now in
-    let b = c .before .before .before .begin in
-    let first : set room 0 (b .result .position) ≡ overTo 1 new room =
-    overTo-more new room 0 refl (reached-position w (reached-first w (b .ensures .0) (b .ensures .1)) refl) (rw (length-positions w) (w .some)) (omega (arith, w .some, w .fits)) in
-    overTo-all new room {i = at .i} (at .inv .2 room first (omega (arith, w .fits))) (rw (length-positions w) (omega (arith, at .inv .0 .within)))
+    let ps = positionsOf (start .args .s) (start .args .seq .now) in
+    laid-all (positions-laid ps (length-positions w)) (start .args .room .now) (w .fits) (wrote (c .before .before .before) .0) (omega arith) (omega arith)
+
+add-place : tie.Need-add-place Inv-loop μ-loop
+add-place c =
+    let w = c .before .before .before .before .before .before .before .before .before .before .pre in
+    omega (arith, w .all, w .readable .short, w .readable .prepared .kFew, c .before .before .before .before .loop .inv .0 .within)
+
+sub-place : tie.Need-sub-place Inv-loop μ-loop
+sub-place c = omega arith
+
+next-windows-requires : tie.Need-next-windows-requires Inv-loop μ-loop
+next-windows-requires c κs =
+    let w = c .before .before .before .before .before .before .before .before .before .before .before .before .pre in
+    let at = c .before .before .before .before .before .before .loop in
+    (w .readable, (at .inv .0 .read, next-place w (at .inv .0) (c .before .before .before .if1 .left)))
+
+loop-less : tie.Need-loop-less Inv-loop μ-loop
+loop-less c = omega (arith, c .before .before .before .before .before .before .before .loop .inv .0 .within)
+
+loop-again : tie.Need-loop-again Inv-loop μ-loop
+loop-again c =
+    let at = c .before .before .before .before .before .before .before .loop in
+    let now = wrote (c .before .before .before .before .before .before .before) in
+    (reached-next (c .before .before .before .before .before .before .before .before .before .before .before .before .before .pre) (at .inv .0) (c .before .before .before .before .if1 .left) (c .next-windows .ensures .0) (c .next-windows .ensures .1), now .0, now .1)
 
 pub write-positions-spec : {M : Type 1} → statement M
 write-positions-spec =
@@ -117,18 +138,22 @@ write-positions-spec =
     (tie.spec
     Inv-loop
     μ-loop
+    add-half
+    sub-from
     begin-requires
-    cast-room
-    slice-write-room
     loop-holds
-    add-place
-    sub-place
-    next-window-requires
-    cast-room-2
+    cast-room
     mul-room
+    slice-write-room
+    add-to
+    cast-room-2
+    mul-room-2
     slice-write-room-2
     add-i
-    loop-less
-    loop-again
     same-length
-    returns)
+    returns
+    add-place
+    sub-place
+    next-windows-requires
+    loop-less
+    loop-again)

@@ -1,0 +1,62 @@
+-- `scans::next_windows` meets its contract: once the last blocks have m-mers left to be read after them, each run reads one letter.
+-- Assumes nothing.
+use Prim.Native.Nat.{_+_}
+use mathlib.Core.Path.{_≡_}
+use native.Mathlib.Omega.{arith}
+use borrow.Author.Needs.{needs}
+use Rattle.scans.specs.Readings.{ReadBoth}
+use Rattle.scans.proofs.Windows.{block-inside}
+use Rattle.scans.proofs.next_windows.Statement.{statement}
+use Rattle.scans.proofs.next_windows.Tie as tie
+
+turned-requires : tie.Need-turned-requires
+turned-requires c κs =
+    let start = c .before .before .before in
+    record { seq = start .args .seq .now; from = start .args .from; readable = start .pre .0; read = start .pre .1 .0 }
+
+add-behind : tie.Need-add-behind
+add-behind c =
+    let start = c .before .before .before .before .before .before in
+    omega (arith, c .before .before .turned .ensures .same, start .pre .1 .1, start .pre .0 .short)
+
+add-end : tie.Need-add-end
+add-end c =
+    let start = c .before .before .before .before .before .before in
+    omega (arith, start .pre .1 .1, start .pre .0 .short)
+
+add-next : tie.Need-add-next
+add-next c =
+    let start = c .before .before .before .before .before .before in
+    omega (arith, c .before .before .turned .ensures .same, start .pre .1 .1, start .pre .0 .short)
+
+step-requires : tie.Need-step-requires
+step-requires c κs =
+    let start = c .before .before .before .before .before .before .before in
+    let t = c .before .before .before .turned .ensures in
+    record {
+      readable = start .pre .0;
+      read = t .read (start .args .seq .now) (start .args .from) (start .pre .0) (start .pre .1 .0) .one;
+      inside = t .inside;
+      there = omega (arith, t .same, start .pre .1 .1 .0);
+      more = omega (arith, start .pre .1 .1);
+    }
+
+step-requires-2 : tie.Need-step-requires-2
+step-requires-2 c κs =
+    let start = c .before .before .before .before .before .before .before .before .before in
+    let t = c .before .before .before .before .before .turned .ensures in
+    record {
+      readable = start .pre .0;
+      read = t .read (start .args .seq .now) (start .args .from) (start .pre .0) (start .pre .1 .0) .other;
+      inside = t .inside;
+      there = omega (arith, t .same, start .pre .1 .1 .0);
+      more = start .pre .1 .1 .1;
+    }
+
+returns : tie.Need-returns
+returns c =
+    let start = c .before .before .before .before .before .before .before .before .before .before in
+    (record { one = c .before .before .step .ensures; other = c .step2 .ensures }, omega (arith, c .before .before .before .before .before .before .turned .ensures .same))
+
+pub next-windows-spec : {M : Type 1} → statement M
+next-windows-spec = tie.close (tie.spec turned-requires add-behind add-end add-next step-requires step-requires-2 returns)
