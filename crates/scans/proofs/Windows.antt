@@ -3,23 +3,21 @@
 use Prim.Native.Nat.{ℕ, suc, _+_, _-_, _*_, _/_, _^_, _≤_, _<_, min}
 use mathlib.Core.List.{List}
 use mathlib.Core.Path.{_≡_, sym, ap, _∙_}
-use native.Mathlib.Nat.{min-eq-left}
 use native.Mathlib.Numerals.{add-one}
 use native.Mathlib.Omega.{arith}
 use lib.Bits.{bitAnd}
-use lib.ListN.{length, getD, set, take, drop, length-map}
+use lib.ListN.{length, getD, set, drop, length-map}
 use Rattle.definitions.specs.Lists.{tabulate}
 use Rattle.definitions.specs.Words.{spelled, word as wordOf}
 use Rattle.definitions.specs.Vigemins.{keyed}
 use Rattle.laws.specs.Filters.{length-tabulate, tabulate-at}
 use Rattle.laws.specs.Scans.{length-scan, scan-inside}
 use Rattle.laws.specs.Rolls.{rolled, values}
-use Rattle.laws.specs.Stamps.{lowest-top, stamped}
 use Rattle.scans.specs.declared.Settings.{Settings}
 use Rattle.scans.specs.declared.Mer.{Mer}
 use Rattle.scans.specs.declared.Run.{Run}
 use Rattle.scans.specs.declared.Runs.{Runs}
-use Rattle.scans.specs.Readings.{top, Entries, Suffixes, Rollable, Stamped, Readable, Filled, Minima, Beginnable, Begun, Read, ReadBoth, Steppable, Writable, positionsOf}
+use Rattle.scans.specs.Readings.{top, Entries, Suffixes, Rollable, Stamped, Readable, Filled, Minima, Beginnable, Begun, Read, ReadBoth, Steppable, Positioned, Writable, positionsOf}
 use Rattle.scans.proofs.Blocks.{filled-entries, filled-more, filled-minima, minima-filled, minima-more, minima-place}
 use Rattle.scans.proofs.Letters.{rolled-on, length-mers, mers, rolled-from, mer-read, window-position}
 
@@ -57,7 +55,7 @@ module _ (s : Settings) (seq : List ℕ) (a : Readable s seq) where
 
   -- and becomes the last one
   pub turn-read : {block at next : ℕ} {r : Run} {ring new : List ℕ} → at ≡ s .width → next ≡ block + s .width → Suffixes (s .width) ring new
-      → Read s seq block at r ring → Read s seq next 0 (record { word = r .word; least = top; position = r .position }) new
+      → Read s seq block at r ring → Read s seq next 0 (record { word = r .word; least = top }) new
   turn-read {block} {at} {next} {r} {ring} {new} e n f d =
       let whole : Minima (s .side) (s .width) (values (s .m) (s .key) (spelled seq)) block (s .width) (r .least) ring = rw e at (d .minima) in
       let same : block + at ≡ next + 0 = omega arith in
@@ -68,24 +66,21 @@ module _ (s : Settings) (seq : List ℕ) (a : Readable s seq) where
             (minima-filled (s .side) (s .width) (4 ^ s .m) (values (s .m) (s .key) (spelled seq)) (mers s seq a) whole)
             f);
         word = rw same at (d .word);
-        position = rw same at (d .position);
       }
 
-  -- the position of the window of which the least is known
-  position-read : {block at run : ℕ} {ring : List ℕ} (least : ℕ) → Minima (s .side) (s .width) (values (s .m) (s .key) (spelled seq)) block at run ring
-      → least ≡ min (getD ring at 0) run
+  -- the position of the vigemin of a window that was read
+  pub position-read : {block at : ℕ} {r : Run} {ring : List ℕ} → Read s seq block at r ring → {least : ℕ} → least ≡ min (getD ring at 0) (r .least)
       → block + bitAnd least (s .side - 1) ≡ getD (positionsOf s seq) (block + at) 0
-  position-read {block} {at} {run} {ring} least m e =
-      let place = minima-place (s .side) (s .width) (4 ^ s .m) (values (s .m) (s .key) (spelled seq)) (mers s seq a) m in
-      rw (window-position s seq a (block + at) (minima-inside m), a .prepared .placesAre least, e, place) (omega arith)
+  position-read {block} {at} d {least} e =
+      let place = minima-place (s .side) (s .width) (4 ^ s .m) (values (s .m) (s .key) (spelled seq)) (mers s seq a) (d .minima) in
+      rw (window-position s seq a (block + at) (block-inside d), a .prepared .placesAre least, e, place) (omega arith)
 
-  -- a window's position lies in the sequence
-  pub position-small : {block at : ℕ} {r : Run} {ring : List ℕ} → Read s seq block at r ring → r .position < 65536
-  position-small {block} {at} d =
-      let p = block + at in
-      let k : p + s .k ≤ length (spelled seq) = rw length-map (block-inside d) in
-      let inside = scan-inside (keyed (wordOf (s .m) (s .key))) (s .k) (s .m) (spelled seq) p (omega (arith, a .prepared .kIs, a .prepared .wide)) k in
-      omega (arith, d .position, inside .1, block-inside d, a .short, a .prepared .mSome)
+  -- it lies in the sequence
+  pub position-small : {block at : ℕ} {r : Run} {ring : List ℕ} → Read s seq block at r ring → {p : ℕ} → p ≡ getD (positionsOf s seq) (block + at) 0 → p < 65536
+  position-small {block} {at} d {p} e =
+      let k : block + at + s .k ≤ length (spelled seq) = rw length-map (block-inside d) in
+      let inside = scan-inside (keyed (wordOf (s .m) (s .key))) (s .k) (s .m) (spelled seq) (block + at) (omega (arith, a .prepared .kIs, a .prepared .wide)) k in
+      omega (arith, inside .1, block-inside d, a .short, a .prepared .mSome)
 
   -- the word read last can be rolled on
   pub word-rollable : {block at : ℕ} {r : Run} {ring : List ℕ} → Read s seq block at r ring → Rollable s (r .word)
@@ -93,10 +88,10 @@ module _ (s : Settings) (seq : List ℕ) (a : Readable s seq) where
 
   -- the next window is read
   pub step-read : {block at : ℕ} {r : Run} {place : ℕ} {ring : List ℕ} → Steppable s block at r seq place ring → {mer : Mer} → Stamped s (r .word) (getD seq place 0) at mer
-      → {least : ℕ} → least ≡ min (r .least) (mer .stamp + s .width) → {lowest : ℕ} → lowest ≡ min (getD (set ring at (mer .stamp)) (at + 1) 0) least
-      → Read s seq block (at + 1) (record { word = mer .word; least = least; position = block + bitAnd lowest (s .side - 1) }) (set ring at (mer .stamp))
-  step-read {block} {at} {r} {place} {ring} b {mer} st {least} q {lowest} l =
-      record { minima = more; word = got .0 ∙ ap (λ (t : ℕ). rolled (s .m) (spelled seq) t * s .side) letters; position = position-read lowest more l }
+      → {least : ℕ} → least ≡ min (r .least) (mer .stamp + s .width)
+      → Read s seq block (at + 1) (record { word = mer .word; least = least }) (set ring at (mer .stamp))
+  step-read {block} {at} {r} {place} {ring} b {mer} st {least} q =
+      record { minima = more; word = got .0 ∙ ap (λ (t : ℕ). rolled (s .m) (spelled seq) t * s .side) letters }
     where
       vs : List ℕ
       vs = values (s .m) (s .key) (spelled seq)
@@ -152,25 +147,19 @@ module _ (s : Settings) (seq : List ℕ) (a : Readable s seq) where
 
     -- and then the window was read
     pub begun-read : {word block : ℕ} {ring new : List ℕ} → block ≡ from → Begun s seq from word (s .width) ring → Suffixes (s .width) ring new
-        → Read s seq block 0 (record { word = word; least = top; position = from + bitAnd (getD new 0 0) (s .side - 1) }) new
-    begun-read {word} {block} {ring} {new} e b f =
-        rw e (record { minima = none; word = b .rolls ∙ ap (λ (t : ℕ). t * s .side) letters; position = position-read (getD new 0 0) none least })
+        → Read s seq block 0 (record { word = word; least = top }) new
+    begun-read e b f =
+        rw e
+        (record {
+          minima =
+              filled-minima (s .side) (s .width) (4 ^ s .m) (values (s .m) (s .key) (spelled seq)) (mers s seq a)
+              (omega (arith, length-mers s seq a, a .prepared .kIs)) (b .filled) f;
+          word = b .rolls ∙ ap (λ (t : ℕ). t * s .side) letters;
+        })
       where
-        vs : List ℕ
-        vs = values (s .m) (s .key) (spelled seq)
-
         letters : rolled (s .m) (drop from (spelled seq)) (s .m - 1 + s .width) ≡ rolled (s .m) (spelled seq) (from + 0 + s .k)
         letters =
             rolled-from s seq a from (s .m - 1 + s .width) {end = from + 0 + s .k} (omega (arith, a .prepared .kIs, a .prepared .mSome)) (omega (arith, a .prepared .wide)) (omega arith)
-
-        none : Minima (s .side) (s .width) vs from 0 top new
-        none =
-            filled-minima (s .side) (s .width) (4 ^ s .m) vs (mers s seq a) (omega (arith, length-mers s seq a, a .prepared .kIs)) (b .filled) f
-
-        least : getD new 0 0 ≡ min (getD new 0 0) top
-        least =
-            let low : getD new 0 0 ≤ top = rw (none .left 0 (omega arith) (omega arith)) (lowest-top top (stamped (s .side) 0 (take (s .width - 0) (drop (from + 0) vs)))) in
-            sym (min-eq-left low)
 
 module _ {s : Settings} {seq : List ℕ} {windows each : ℕ} {room : List ℕ} (w : Writable s seq windows each room) where
   -- a position for each window
@@ -200,8 +189,9 @@ module _ {s : Settings} {seq : List ℕ} {windows each : ℕ} {room : List ℕ} 
         → t .block + t .at ≡ suc (r .block + r .at) → Reached s seq windows (i + 1) t newLeft newRight
     reached-next l d e = record { within = omega (arith, h .within, l); read = d; last = omega (arith, h .last) }
 
-    -- the positions that are known are those of the windows reached
-    pub reached-positions : (r .left .position ≡ getD (positionsOf s seq) i 0) × (r .right .position ≡ getD (positionsOf s seq) (behind windows + i) 0)
-    reached-positions =
-        let other : r .block + (behind windows) + r .at ≡ behind windows + i = omega (arith, h .last) in
-        (rw (h .last) at (h .read .one .position), rw other at (h .read .other .position))
+    -- a position for the window of each run is that of window i, and of the one so far behind it
+    pub reached-positions : {p q : ℕ} → Positioned s (r .block) (r .at) (r .left) left p → Positioned s (r .block + behind windows) (r .at) (r .right) right q
+        → (p ≡ getD (positionsOf s seq) i 0) × (q ≡ getD (positionsOf s seq) (behind windows + i) 0)
+    reached-positions one other =
+        let far : r .block + behind windows + r .at ≡ behind windows + i = omega (arith, h .last) in
+        (rw (h .last) at (one seq (w .readable) (h .read .one)), rw far at (other seq (w .readable) (h .read .other)))

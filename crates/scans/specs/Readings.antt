@@ -113,12 +113,10 @@ pub record Begun (s : Settings) (seq : List ℕ) (from word at : ℕ) (ring : Li
   pub rolls : word ≡ rolled (s .m) (drop from (spelled seq)) (s .m - 1 + at) * s .side
   pub filled : Filled (s .side) (s .width) (values (s .m) (s .key) (spelled seq)) from at ring
 
--- a window was read, of which the first m-mer is so far behind the start of a block: the word is that of the letters read last, and the position
--- that of the window's vigemin
+-- a window was read, of which the first m-mer is so far behind the start of a block: the word is that of the letters read last
 pub record Read (s : Settings) (seq : List ℕ) (block at : ℕ) (r : Run) (ring : List ℕ) : Type 0 where
   pub minima : Minima (s .side) (s .width) (values (s .m) (s .key) (spelled seq)) block at (r .least) ring
   pub word : r .word ≡ rolled (s .m) (spelled seq) (block + at + s .k) * s .side
-  pub position : r .position ≡ getD (positionsOf s seq) (block + at) 0
 
 -- a window of each run was read, the right one so far behind the left one
 pub record ReadBoth (s : Settings) (seq : List ℕ) (from : ℕ) (r : Runs) (left right : List ℕ) : Type 0 where
@@ -145,6 +143,16 @@ pub record Steppable (s : Settings) (block at : ℕ) (r : Run) (seq : List ℕ) 
   pub inside : at < s .width
   pub there : place ≡ block + at + s .k
   pub more : place < length seq
+
+-- a run that has read a window of some sequence
+pub record Known (s : Settings) (block at : ℕ) (r : Run) (ring : List ℕ) : Type 0 where
+  pub seq : List ℕ
+  pub readable : Readable s seq
+  pub read : Read s seq block at r ring
+
+-- the position of the vigemin of the window read, whatever the sequence
+abbrev pub Positioned : Settings → ℕ → ℕ → Run → List ℕ → ℕ → Type 0
+Positioned s block at r ring p = (seq : List ℕ) → Readable s seq → Read s seq block at r ring → p ≡ getD (positionsOf s seq) (block + at) 0
 
 -- a sequence with some windows, and room for so many entries for each
 pub record Writable (s : Settings) (seq : List ℕ) (windows each : ℕ) (room : List ℕ) : Type 0 where

@@ -9,7 +9,7 @@ ghost use Rattle.definitions.specs.Outcomes.{scanOutcome, asBytes, scanBytesOut
 ghost use Rattle.laws.specs.Accepted.{OrderAccepted};
 ghost use Rattle.laws.specs.Rolls.{rolled, values};
 ghost use Rattle.scans.specs.Answers.{scanned};
-ghost use Rattle.scans.specs.Readings.{Entries, Suffixes, SetTo, Rollable, Rolled, Stamped, Readable, Filled, Begun, Beginnable, ReadBoth, Read, Turnable, Turned, Steppable, Writable, positionsOf};
+ghost use Rattle.scans.specs.Readings.{Entries, Suffixes, SetTo, Rollable, Rolled, Stamped, Readable, Filled, Begun, Beginnable, ReadBoth, Read, Turnable, Turned, Steppable, Known, Positioned, Writable, positionsOf};
 
 // The largest number of 64 bits: no stamp is above it.
 const TOP: u64 = 18446744073709551615;
@@ -123,12 +123,10 @@ fn fill(s: Settings, seq: &[u8], from: u64, ring: &mut [u64; 32]) -> u64
     word
 }
 
-// What a run of windows has read up to a window: the m-mer read last; the least stamp of the m-mers read after the window's block; and the position of
-// the window's vigemin.
+// What a run of windows has read up to a window: the m-mer read last, and the least stamp of the m-mers read after the window's block.
 struct Run {
     word: u64,
     least: u64,
-    position: u64,
 }
 
 // Two runs of windows that are read side by side, so that neither waits for the other's minima. The m-mers of each go by blocks of a window's width;
@@ -151,21 +149,13 @@ fn begin(s: Settings, seq: &[u8], from: u64, left: &mut [u64; 32], right: &mut [
     let word = fill(s, seq, 0, left);
     let other = fill(s, seq, from, right);
     suffixes(s.width, left, right);
-    let mask = s.side - 1;
-    let position = left[0] & mask;
-    let behind = from + (right[0] & mask);
     Runs {
         block: 0,
         at: 0,
-        left: Run {
-            word,
-            least: TOP,
-            position,
-        },
+        left: Run { word, least: TOP },
         right: Run {
             word: other,
             least: TOP,
-            position: behind,
         },
     }
 }
@@ -184,12 +174,10 @@ fn turned(s: Settings, r: Runs, left: &mut [u64; 32], right: &mut [u64; 32]) -> 
             left: Run {
                 word: r.left.word,
                 least: TOP,
-                position: r.left.position,
             },
             right: Run {
                 word: r.right.word,
                 least: TOP,
-                position: r.right.position,
             },
         };
     }
@@ -213,14 +201,19 @@ fn step(
     ring[at as usize] = mer.stamp;
     let far = mer.stamp + s.width;
     let least = powers::lesser(r.least, far);
-    let next = at + 1;
-    let lowest = powers::lesser(ring[next as usize], least);
-    let position = block + (lowest & (s.side - 1));
     Run {
         word: mer.word,
         least,
-        position,
     }
+}
+
+// The position of the vigemin of the window read last: the lesser of what is left of the block and what was read after it has its place.
+fn position(s: Settings, block: u64, at: u64, r: Run, ring: &[u64; 32]) -> u64
+    requires { ⌜ Known s block at r (now ring) ⌝ }
+    ensures { λ p. ⌜ Positioned s block at r (now (ring .entry)) p ⌝ }
+{
+    let least = powers::lesser(ring[at as usize], r.least);
+    block + (least & (s.side - 1))
 }
 
 // Reads the window after the last one of each run; the left one ends in the letter at a place.
@@ -269,9 +262,12 @@ fn write_positions(s: Settings, seq: &[u8], windows: u64, room: &mut [u32])
     let mut r = begin(s, seq, from, &mut left, &mut right);
     let mut i: u64 = 0;
     loop {
-        room[i as usize] = r.left.position as u32;
+        let near = r.left;
+        room[i as usize] = position(s, r.block, r.at, near, &left) as u32;
+        let far = r.right;
         let to = from + i;
-        room[to as usize] = r.right.position as u32;
+        let behind = r.block + from;
+        room[to as usize] = position(s, behind, r.at, far, &right) as u32;
         i += 1;
         if i == half {
             return;
@@ -316,7 +312,8 @@ fn put(position: u64, place: usize, room: &mut [u8])
     room[place + 3] = (position % 256) as u8;
 }
 
-// Writes the position for each window at the front of the room, as bytes.
+// Writes the position for each window at the front of the room, as bytes. Between the two stores of a window something is read from a ring, so that the
+// compiler makes one store of the four bytes of each.
 fn write_bytes(s: Settings, seq: &[u8], windows: u64, room: &mut [u8])
     requires { ⌜ Writable s (now seq) windows 4 (now room) ⌝ }
     ensures { λ _. ⌜ now (room .exit) ≡ over (asBytes (positionsOf s (now (seq .entry)))) (now (room .entry)) ⌝ }
@@ -328,10 +325,17 @@ fn write_bytes(s: Settings, seq: &[u8], windows: u64, room: &mut [u8])
     let mut r = begin(s, seq, from, &mut left, &mut right);
     let mut i: u64 = 0;
     loop {
+        let near = r.left;
         let to = 4 * i;
-        put(r.left.position, to as usize, room);
-        let behind = 4 * from + to;
-        put(r.right.position, behind as usize, room);
+        put(position(s, r.block, r.at, near, &left), to as usize, room);
+        let far = r.right;
+        let behind = r.block + from;
+        let beyond = 4 * from + to;
+        put(
+            position(s, behind, r.at, far, &right),
+            beyond as usize,
+            room,
+        );
         i += 1;
         if i == half {
             return;

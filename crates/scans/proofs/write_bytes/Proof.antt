@@ -1,8 +1,8 @@
 -- `scans::write_bytes` meets its contract. The loop's invariant: each run has read its window i and written the positions for those before it.
--- The measure is how many windows of a run are left.
+-- The measure is how many windows are left.
 -- Assumes nothing.
-use Prim.Native.Nat.{_+_, _-_, _*_, _/_, _≤_, _<_}
-use mathlib.Core.Path.{_≡_, refl, sym, _∙_}
+use Prim.Native.Nat.{_+_, _-_, _*_}
+use mathlib.Core.Path.{_≡_, refl, _∙_}
 use native.Mathlib.Omega.{arith}
 use lib.ListN.{length}
 use Rattle.definitions.specs.Lists.{over}
@@ -31,9 +31,7 @@ sub-from : tie.Need-sub-from Inv-loop μ-loop
 sub-from c = omega (arith, c .before .before .pre .some)
 
 begin-requires : tie.Need-begin-requires Inv-loop μ-loop
-begin-requires c κs =
-    let start = c .before .before .before .before in
-    begins (start .pre)
+begin-requires c κs = begins (c .before .before .before .before .pre)
 
 loop-holds : tie.Need-loop-holds Inv-loop μ-loop
 loop-holds c =
@@ -44,84 +42,100 @@ loop-holds c =
 
 mul-to : tie.Need-mul-to Inv-loop μ-loop
 mul-to c =
-    let w = c .before .before .before .before .before .before .pre in
-    omega (arith, w .all, w .readable .short, c .loop .inv .0 .within)
+    let w = c .before .before .before .before .before .before .before .pre in
+    omega (arith, w .all, w .readable .short, c .before .loop .inv .0 .within)
+
+position-requires : tie.Need-position-requires Inv-loop μ-loop
+position-requires c κs =
+    let start = c .before .before .before .before .before .before .before .before in
+    record { seq = start .args .seq .now; readable = start .pre .readable; read = c .before .before .loop .inv .0 .read .one }
 
 put-requires : tie.Need-put-requires Inv-loop μ-loop
 put-requires c κs =
-    let at = c .before .loop in
-    omega (arith, c .before .before .before .before .before .before .before .pre .fits, at .inv .0 .within, at .inv .2)
-
-mul-behind : tie.Need-mul-behind Inv-loop μ-loop
-mul-behind c =
-    let w = c .before .before .before .before .before .before .before .before .before .before .pre in
-    omega (arith, w .all, w .readable .short)
+    let at = c .before .before .before .before .loop in
+    omega (arith, c .before .before .before .before .before .before .before .before .before .before .pre .fits, at .inv .0 .within, at .inv .2)
 
 add-behind : tie.Need-add-behind Inv-loop μ-loop
 add-behind c =
-    let w = c .before .before .before .before .before .before .before .before .before .before .pre in
-    omega (arith, w .all, w .readable .short, c .before .before .before .before .loop .inv .0 .within)
+    let w = c .before .before .before .before .before .before .before .before .before .before .before .before .before .before .before .pre in
+    let at = c .before .before .before .before .before .before .before .before .before .loop in
+    omega (arith, w .all, w .readable .short, at .inv .0 .within, at .inv .0 .last)
+
+mul-beyond : tie.Need-mul-beyond Inv-loop μ-loop
+mul-beyond c =
+    let w = c .before .before .before .before .before .before .before .before .before .before .before .before .before .before .before .pre in
+    omega (arith, w .all, w .readable .short)
+
+add-beyond : tie.Need-add-beyond Inv-loop μ-loop
+add-beyond c =
+    let w = c .before .before .before .before .before .before .before .before .before .before .before .before .before .before .before .pre in
+    omega (arith, w .all, w .readable .short, c .before .before .before .before .before .before .before .before .before .loop .inv .0 .within)
+
+position-requires-2 : tie.Need-position-requires-2 Inv-loop μ-loop
+position-requires-2 c κs =
+    let start = c .before .before .before .before .before .before .before .before .before .before .before .before .before .before .before .before in
+    record { seq = start .args .seq .now; readable = start .pre .readable; read = c .before .before .before .before .before .before .before .before .before .before .loop .inv .0 .read .other }
 
 put-requires-2 : tie.Need-put-requires-2 Inv-loop μ-loop
 put-requires-2 c κs =
-    let at = c .before .before .before .before .before .loop in
-    omega (arith, c .before .before .before .before .before .before .before .before .before .before .before .pre .fits, at .inv .0 .within, at .inv .2, c .before .before .before .put .kept .1 .1 .0)
+    let at = c .before .before .before .before .before .before .before .before .before .before .before .before .loop in
+    omega (arith, c .before .before .before .before .before .before .before .before .before .before .before .before .before .before .before .before .before .before .pre .fits, at .inv .0 .within, at .inv .2, c .before .before .before .before .before .before .before .put .kept .1 .1 .0)
 
 add-i : tie.Need-add-i Inv-loop μ-loop
 add-i c =
-    let w = c .before .before .before .before .before .before .before .before .before .before .before .before .before .before .pre in
-    omega (arith, w .all, w .readable .short, c .before .before .before .before .before .before .before .before .loop .inv .0 .within)
+    let w = c .before .before .before .before .before .before .before .before .before .before .before .before .before .before .before .before .before .before .before .before .before .pre in
+    omega (arith, w .all, w .readable .short, c .before .before .before .before .before .before .before .before .before .before .before .before .before .before .before .loop .inv .0 .within)
 
 -- each run has written one position more
 wrote : (c : tie.After-put2 Inv-loop μ-loop)
-    → (let start = c .before .before .before .before .before .before .before .before .before .before .before .before in
-    let ps = positionsOf (start .args .s) (start .args .seq .now) in
-    Laid (over (asBytes ps) (start .args .room .now)) 4 (start .args .windows) (behind (start .args .windows)) (c .before .before .before .before .before .before .loop .i + 1) (c .put2 .last .1 .1 .0))
+    → (let start = c .before .before .before .before .before .before .before .before .before .before .before .before .before .before .before .before .before .before .before in
+    let room = c .put2 .last .1 .1 .0 in
+    Laid (over (asBytes (positionsOf (start .args .s) (start .args .seq .now))) (start .args .room .now)) 4 (start .args .windows) (behind (start .args .windows)) (c .before .before .before .before .before .before .before .before .before .before .before .before .before .loop .i + 1) room
+    × (length room ≡ length (start .args .room .now)))
 wrote c =
-    let start = c .before .before .before .before .before .before .before .before .before .before .before .before in
-    let at = c .before .before .before .before .before .before .loop in
+    let start = c .before .before .before .before .before .before .before .before .before .before .before .before .before .before .before .before .before .before .before in
+    let at = c .before .before .before .before .before .before .before .before .before .before .before .before .before .loop in
     let w = start .pre in
     let ps = positionsOf (start .args .s) (start .args .seq .now) in
-    let known = reached-positions w (at .inv .0) in
-    let near : 4 * at .i ≡ 4 * at .i = refl in
-    let far : 4 * behind (start .args .windows) + 4 * at .i ≡ 4 * (behind (start .args .windows) + at .i) = omega arith in
-    rw (c .put2 .ensures, c .before .before .before .before .put .ensures)
-    (laid-more (bytes-laid ps (length-positions w)) (start .args .room .now) (w .fits) (at .inv .1) (omega (arith, at .inv .0 .within)) near far (known .0) (known .1))
+    let known = reached-positions w (at .inv .0) (c .before .before .before .before .before .before .before .before .before .before .position .ensures) (c .before .before .position2 .ensures) in
+    let far : 4 * behind (start .args .windows) + 4 * at .i ≡ 4 * (behind (start .args .windows) + at .i) = omega arith in (
+      rw (c .put2 .ensures, c .before .before .before .before .before .before .before .before .put .ensures)
+          (laid-more (bytes-laid ps (length-positions w)) (start .args .room .now) (w .fits) (at .inv .1) (omega (arith, at .inv .0 .within)) refl far (known .0) (known .1)),
+      c .put2 .kept .1 .1 .0 ∙ c .before .before .before .before .before .before .before .before .put .kept .1 .1 .0 ∙ at .inv .2,
+    )
 
 same-length : tie.Need-same-length Inv-loop μ-loop
-same-length c = c .before .before .before .put2 .kept .1 .1 .0 ∙ c .before .before .before .before .before .before .before .put .kept .1 .1 .0 ∙ c .before .before .before .before .before .before .before .before .before .loop .inv .2
+same-length c = wrote (c .before .before .before) .1
 
 returns : tie.Need-returns Inv-loop μ-loop
 returns c =
-    let start = c .before .before .before .before .before .before .before .before .before .before .before .before .before .before .before in
+    let start = c .before .before .before .before .before .before .before .before .before .before .before .before .before .before .before .before .before .before .before .before .before .before in
     let w = start .pre in
     let ps = positionsOf (start .args .s) (start .args .seq .now) in
-    laid-all (bytes-laid ps (length-positions w)) (start .args .room .now) (w .fits) (wrote (c .before .before .before)) (omega arith) (omega arith)
+    laid-all (bytes-laid ps (length-positions w)) (start .args .room .now) (w .fits) (wrote (c .before .before .before) .0) (omega arith) (omega arith)
 
 add-place : tie.Need-add-place Inv-loop μ-loop
 add-place c =
-    let w = c .before .before .before .before .before .before .before .before .before .before .before .before .before .before .before .before .pre in
-    omega (arith, w .all, w .readable .short, w .readable .prepared .kFew, c .before .before .before .before .before .before .before .before .before .before .loop .inv .0 .within)
+    let w = c .before .before .before .before .before .before .before .before .before .before .before .before .before .before .before .before .before .before .before .before .before .before .before .pre in
+    omega (arith, w .all, w .readable .short, w .readable .prepared .kFew, c .before .before .before .before .before .before .before .before .before .before .before .before .before .before .before .before .before .loop .inv .0 .within)
 
 sub-place : tie.Need-sub-place Inv-loop μ-loop
 sub-place c = omega arith
 
 next-windows-requires : tie.Need-next-windows-requires Inv-loop μ-loop
 next-windows-requires c κs =
-    let w = c .before .before .before .before .before .before .before .before .before .before .before .before .before .before .before .before .before .before .pre in
-    let at = c .before .before .before .before .before .before .before .before .before .before .before .before .loop in
+    let w = c .before .before .before .before .before .before .before .before .before .before .before .before .before .before .before .before .before .before .before .before .before .before .before .before .before .pre in
+    let at = c .before .before .before .before .before .before .before .before .before .before .before .before .before .before .before .before .before .before .before .loop in
     (w .readable, (at .inv .0 .read, next-place w (at .inv .0) (c .before .before .before .if1 .left)))
 
 loop-less : tie.Need-loop-less Inv-loop μ-loop
-loop-less c = omega (arith, c .before .before .before .before .before .before .before .before .before .before .before .before .before .loop .inv .0 .within)
+loop-less c = omega (arith, c .before .before .before .before .before .before .before .before .before .before .before .before .before .before .before .before .before .before .before .before .loop .inv .0 .within)
 
 loop-again : tie.Need-loop-again Inv-loop μ-loop
 loop-again c =
-    let at = c .before .before .before .before .before .before .before .before .before .before .before .before .before .loop in (
-      reached-next (c .before .before .before .before .before .before .before .before .before .before .before .before .before .before .before .before .before .before .before .pre) (at .inv .0) (c .before .before .before .before .if1 .left) (c .next-windows .ensures .0) (c .next-windows .ensures .1),
-      wrote (c .before .before .before .before .before .before .before),
-      c .before .before .before .before .before .before .before .put2 .kept .1 .1 .0 ∙ c .before .before .before .before .before .before .before .before .before .before .before .put .kept .1 .1 .0 ∙ at .inv .2,
-    )
+    let at = c .before .before .before .before .before .before .before .before .before .before .before .before .before .before .before .before .before .before .before .before .loop in
+    let now = wrote (c .before .before .before .before .before .before .before) in
+    (reached-next (c .before .before .before .before .before .before .before .before .before .before .before .before .before .before .before .before .before .before .before .before .before .before .before .before .before .before .pre) (at .inv .0) (c .before .before .before .before .if1 .left) (c .next-windows .ensures .0) (c .next-windows .ensures .1), now .0, now .1)
 
 pub write-bytes-spec : {M : Type 1} → statement M
 write-bytes-spec =
@@ -134,9 +148,12 @@ write-bytes-spec =
     begin-requires
     loop-holds
     mul-to
+    position-requires
     put-requires
-    mul-behind
     add-behind
+    mul-beyond
+    add-beyond
+    position-requires-2
     put-requires-2
     add-i
     same-length
