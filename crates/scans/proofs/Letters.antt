@@ -2,29 +2,26 @@
 -- Assumes nothing.
 use Prim.Native.Nat.{ℕ, suc, _+_, _-_, _*_, _^_, _≤_, _<_}
 use mathlib.Core.List.{List}
+use mathlib.Core.Bool.{true}
 use mathlib.Core.Path.{_≡_, sym, ap, _∙_}
 use native.Mathlib.Nat.{mod-lt, one-le-pow}
 use native.Mathlib.Omega.{arith}
 use lib.ListN.{length, getD, take, drop, length-map, length-drop}
 use lib.Seq.{getD-drop, drop-drop}
-use Rattle.definitions.specs.Words.{Letters, letterOf, spelled, val, word as wordOf}
+use Rattle.definitions.specs.Words.{Letters, letterOf, isLetter, spelled, val, word as wordOf}
 use Rattle.definitions.specs.Vigemins.{keyed, leastPlace, scan}
+use Rattle.laws.specs.Filters.{all-at, at-map}
 use Rattle.laws.specs.Minima.{length-values}
 use Rattle.laws.specs.Numbers.{four-pos, spelled-letters, letters-drop}
 use Rattle.laws.specs.Rolls.{rolled, roll-letter, roll-mer, values, value-rolled, values-under, scan-values}
-use Rattle.letters.specs.Letters.{code-spelled}
 use Rattle.scans.specs.declared.Settings.{Settings}
-use Rattle.scans.specs.declared.Mer.{Mer}
-use Rattle.scans.specs.Readings.{Prepared, Rollable, rollOn, Stamped, Readable}
+use Rattle.scans.specs.Readings.{top, Prepared, keyedWord, rollOn, Rolled, Readable}
 use Rattle.scans.proofs.Blocks.{Values}
+use Rattle.scans.proofs.Keys.{keyed-room}
 
--- the letters read last are a word of m letters
-pub rolled-small : (m : ℕ) (x : List ℕ) (t : ℕ) → rolled m x t < 4 ^ m
-rolled-small m x t = mod-lt _ (one-le-pow m 4 four-pos)
-
--- and so, times the side, can be rolled on
-pub rolled-on : {s : Settings} → Prepared s → (x : List ℕ) (t : ℕ) {word : ℕ} → word ≡ rolled (s .m) x t * s .side → Rollable s word
-rolled-on {s} p x t e = record { prepared = p; letters = rolled (s .m) x t; small = rolled-small (s .m) x t; high = e }
+-- behind a word that was rolled on every place below the side fits
+pub roll-room : {s : Settings} → Prepared s → (byte : ℕ) {word r : ℕ} → Rolled s word byte r → (v : ℕ) → word ≡ keyedWord s v → r + s .side ≤ suc top
+roll-room {s} p byte f v e = rw (f v e) (keyed-room p (rollOn s v byte) (mod-lt (v * 4 + letterOf byte) (one-le-pow (s .m) 4 four-pos)))
 
 module _ (s : Settings) (seq : List ℕ) (a : Readable s seq) where
   -- how many m-mers there are
@@ -47,7 +44,7 @@ module _ (s : Settings) (seq : List ℕ) (a : Readable s seq) where
   pub letter-read : (from t : ℕ) {place : ℕ} → place ≡ from + t → place < length seq
       → rollOn s (rolled (s .m) (drop from (spelled seq)) t) (getD seq place 0) ≡ rolled (s .m) (drop from (spelled seq)) (suc t)
   letter-read from t {place} e h =
-      rw (code-spelled seq place (a .allLetters) h, e, ← getD-drop from (spelled seq) t 0)
+      rw (← at-map letterOf seq 0 0 place h, e, ← getD-drop from (spelled seq) t 0)
       (roll-letter (s .m) (drop from (spelled seq)) t (rw (length-drop, length-map) (omega arith)))
 
   -- where m letters were read, it does not matter from which place on
@@ -63,15 +60,20 @@ module _ (s : Settings) (seq : List ℕ) (a : Readable s seq) where
       ∙ ap (λ (y : List ℕ). val (take (s .m) y)) (drop-drop j from x)
       ∙ rw whole at (roll-mer (s .m) x (from + j) (rw length-map (omega arith)) letters)
 
-  -- the m-mer that ends in a letter, and its stamp
-  pub mer-read : (from t p : ℕ) {word at place : ℕ} {r : Mer} → at ≡ from + t → at < length seq → p + s .m ≡ suc at → s .m ≤ suc t
-      → word ≡ rolled (s .m) (drop from (spelled seq)) t * s .side → Stamped s word (getD seq at 0) place r
-      → (r .word ≡ rolled (s .m) (drop from (spelled seq)) (suc t) * s .side) × (r .stamp ≡ getD (values (s .m) (s .key) (spelled seq)) p 0 * s .side + place)
-  mer-read from t p {word} {at} {place} {r} i h e long w m =
+  -- a byte of the sequence is a letter's
+  pub seq-letter : (place : ℕ) → place < length seq → isLetter (getD seq place 0) ≡ true
+  seq-letter place h = all-at isLetter seq 0 place (a .allLetters) h
+
+  -- the m-mer that ends in a letter, as it is kept: it is the value at a place, times the side
+  pub mer-read : (from t p : ℕ) {word place r : ℕ} → place ≡ from + t → place < length seq → p + s .m ≡ suc place → s .m ≤ suc t
+      → word ≡ keyedWord s (rolled (s .m) (drop from (spelled seq)) t) → Rolled s word (getD seq place 0) r
+      → (r ≡ keyedWord s (rolled (s .m) (drop from (spelled seq)) (suc t))) × (r ≡ getD (values (s .m) (s .key) (spelled seq)) p 0 * s .side)
+  mer-read from t p {word} {place} {r} i h e long w m =
       let v = rolled (s .m) (drop from (spelled seq)) t in
-      let l : p + s .m ≤ length (spelled seq) = rw length-map (omega arith) in (
-        m .rolls v w ∙ ap (λ (n : ℕ). n * s .side) (letter-read from t i h),
-        m .stamps v w ∙ rw (letter-read from t i h, rolled-from from (suc t) {end = suc at} (omega arith) long h, value-rolled (s .m) (s .key) (spelled seq) (a .prepared .keySmall) (spelled-letters seq (a .allLetters)) p l, e),
+      let l : p + s .m ≤ length (spelled seq) = rw length-map (omega arith) in
+      let now : r ≡ keyedWord s (rolled (s .m) (drop from (spelled seq)) (suc t)) = m v w ∙ ap (keyedWord s) (letter-read from t i h) in (
+        now,
+        now ∙ rw (rolled-from from (suc t) {end = suc place} (omega arith) long h, value-rolled (s .m) (s .key) (spelled seq) (a .prepared .keySmall) (spelled-letters seq (a .allLetters)) p l, e),
       )
 
   -- the position for a window

@@ -14,12 +14,11 @@ use Rattle.laws.specs.Filters.{length-tabulate, tabulate-at}
 use Rattle.laws.specs.Scans.{length-scan, scan-inside}
 use Rattle.laws.specs.Rolls.{rolled, values}
 use Rattle.scans.specs.declared.Settings.{Settings}
-use Rattle.scans.specs.declared.Mer.{Mer}
 use Rattle.scans.specs.declared.Run.{Run}
 use Rattle.scans.specs.declared.Runs.{Runs}
-use Rattle.scans.specs.Readings.{top, Entries, Suffixes, Rollable, Stamped, Readable, Filled, Minima, Beginnable, Begun, Read, ReadBoth, Steppable, Positioned, Writable, positionsOf}
+use Rattle.scans.specs.Readings.{top, Entries, Suffixes, keyedWord, Tabled, Rolled, Readable, Filled, Minima, Beginnable, Begun, Read, ReadBoth, Steppable, Positioned, Writable, positionsOf}
 use Rattle.scans.proofs.Blocks.{filled-entries, filled-more, filled-minima, minima-filled, minima-more, minima-place}
-use Rattle.scans.proofs.Letters.{rolled-on, length-mers, mers, rolled-from, mer-read, window-position}
+use Rattle.scans.proofs.Letters.{length-mers, mers, rolled-from, mer-read, window-position}
 
 -- a ring of tops has the stamps of nothing
 empty-ring : (side width : ℕ) (vs : List ℕ) (from : ℕ) → width ≤ 31 → Filled side width vs from 0 (tabulate (λ _. top) 32)
@@ -82,16 +81,12 @@ module _ (s : Settings) (seq : List ℕ) (a : Readable s seq) where
       let inside = scan-inside (keyed (wordOf (s .m) (s .key))) (s .k) (s .m) (spelled seq) (block + at) (omega (arith, a .prepared .kIs, a .prepared .wide)) k in
       omega (arith, inside .1, block-inside d, a .short, a .prepared .mSome)
 
-  -- the word read last can be rolled on
-  pub word-rollable : {block at : ℕ} {r : Run} {ring : List ℕ} → Read s seq block at r ring → Rollable s (r .word)
-  word-rollable {block} {at} d = rolled-on (a .prepared) (spelled seq) (block + at + s .k) (d .word)
-
   -- the next window is read
-  pub step-read : {block at : ℕ} {r : Run} {place : ℕ} {ring : List ℕ} → Steppable s block at r seq place ring → {mer : Mer} → Stamped s (r .word) (getD seq place 0) at mer
-      → {least : ℕ} → least ≡ min (r .least) (mer .stamp + s .width)
-      → Read s seq block (at + 1) (record { word = mer .word; least = least }) (set ring at (mer .stamp))
-  step-read {block} {at} {r} {place} {ring} b {mer} st {least} q =
-      record { minima = more; word = got .0 ∙ ap (λ (t : ℕ). rolled (s .m) (spelled seq) t * s .side) letters }
+  pub step-read : {block at : ℕ} {table : List ℕ} {r : Run} {place : ℕ} {ring : List ℕ} → Steppable s table block at r seq place ring
+      → {word : ℕ} → Rolled s (r .word) (getD seq place 0) word → {least : ℕ} → least ≡ min (r .least) (word + at + s .width)
+      → Read s seq block (at + 1) (record { word = word; least = least }) (set ring at (word + at))
+  step-read {block} {at} {r = r} {place = place} {ring = ring} b {word} st {least} q =
+      record { minima = more; word = got .0 ∙ ap (λ (t : ℕ). keyedWord s (rolled (s .m) (spelled seq) t)) letters }
     where
       vs : List ℕ
       vs = values (s .m) (s .key) (spelled seq)
@@ -99,12 +94,12 @@ module _ (s : Settings) (seq : List ℕ) (a : Readable s seq) where
       letters : suc place ≡ block + (at + 1) + s .k
       letters = omega (arith, b .there)
 
-      got : (mer .word ≡ rolled (s .m) (spelled seq) (suc place) * s .side) × (mer .stamp ≡ getD vs (block + s .width + at) 0 * s .side + at)
+      got : (word ≡ keyedWord s (rolled (s .m) (spelled seq) (suc place))) × (word ≡ getD vs (block + s .width + at) 0 * s .side)
       got =
           mer-read s seq a 0 place (block + s .width + at) (omega arith) (b .more) (omega (arith, b .there, a .prepared .kIs))
           (omega (arith, b .there, a .prepared .kIs)) (rw (b .there) (b .read .word)) st
 
-      more : Minima (s .side) (s .width) vs block (at + 1) least (set ring at (mer .stamp))
+      more : Minima (s .side) (s .width) vs block (at + 1) least (set ring at (word + at))
       more =
           rw (q, got .1, add-one)
           (minima-more (s .side) (s .width) (4 ^ s .m) vs (mers s seq a) (b .read .minima) (b .inside)
@@ -119,12 +114,12 @@ module _ (s : Settings) (seq : List ℕ) (a : Readable s seq) where
 
   module _ (from : ℕ) (i : from + s .k ≤ length seq) where
     -- one more m-mer is read
-    pub begun-more : {word at place : ℕ} {ring : List ℕ} → Begun s seq from word at ring → at < s .width → place ≡ from + s .m - 1 + at
-        → {mer : Mer} → Stamped s word (getD seq place 0) at mer → Begun s seq from (mer .word) (at + 1) (set ring at (mer .stamp))
-    begun-more {word} {at} {place} {ring} b h e {mer} st =
+    pub begun-more : {word at place next : ℕ} {ring : List ℕ} → Begun s seq from word at ring → at < s .width → place ≡ from + s .m - 1 + at
+        → Rolled s word (getD seq place 0) next → Begun s seq from next (at + 1) (set ring at (next + at))
+    begun-more {word} {at} {place} {next} {ring} b h e st =
         record {
           within = omega arith;
-          rolls = got .0 ∙ ap (λ (t : ℕ). rolled (s .m) (drop from (spelled seq)) t * s .side) letters;
+          rolls = got .0 ∙ ap (λ (t : ℕ). keyedWord s (rolled (s .m) (drop from (spelled seq)) t)) letters;
           filled = rw (got .1, add-one) (filled-more (s .side) (s .width) (4 ^ s .m) vs (mers s seq a) (b .filled) h);
         }
       where
@@ -134,7 +129,7 @@ module _ (s : Settings) (seq : List ℕ) (a : Readable s seq) where
         letters : suc (s .m - 1 + at) ≡ s .m - 1 + (at + 1)
         letters = omega arith
 
-        got : (mer .word ≡ rolled (s .m) (drop from (spelled seq)) (suc (s .m - 1 + at)) * s .side) × (mer .stamp ≡ getD vs (from + at) 0 * s .side + at)
+        got : (next ≡ keyedWord s (rolled (s .m) (drop from (spelled seq)) (suc (s .m - 1 + at)))) × (next ≡ getD vs (from + at) 0 * s .side)
         got =
             mer-read s seq a from (s .m - 1 + at) (from + at) (omega (arith, a .prepared .mSome)) (omega (arith, a .prepared .kIs, a .prepared .mSome))
             (omega (arith, a .prepared .mSome)) (omega (arith, a .prepared .mSome)) (b .rolls) st
@@ -154,7 +149,7 @@ module _ (s : Settings) (seq : List ℕ) (a : Readable s seq) where
           minima =
               filled-minima (s .side) (s .width) (4 ^ s .m) (values (s .m) (s .key) (spelled seq)) (mers s seq a)
               (omega (arith, length-mers s seq a, a .prepared .kIs)) (b .filled) f;
-          word = b .rolls ∙ ap (λ (t : ℕ). t * s .side) letters;
+          word = b .rolls ∙ ap (keyedWord s) letters;
         })
       where
         letters : rolled (s .m) (drop from (spelled seq)) (s .m - 1 + s .width) ≡ rolled (s .m) (spelled seq) (from + 0 + s .k)
@@ -168,11 +163,11 @@ module _ {s : Settings} {seq : List ℕ} {windows each : ℕ} {room : List ℕ} 
       length-scan (keyed (wordOf (s .m) (s .key))) (s .k) (s .m) (spelled seq) ∙ rw length-map (omega (arith, w .all))
 
   -- what reading the first windows asks, of rings of tops
-  pub begins : Beginnable s seq (behind windows)
+  pub begins : {table : List ℕ} → Tabled s table → Beginnable s table seq (behind windows)
       × (Filled (s .side) (s .width) (values (s .m) (s .key) (spelled seq)) 0 0 (tabulate (λ _. top) 32)
       × Filled (s .side) (s .width) (values (s .m) (s .key) (spelled seq)) (behind windows) 0 (tabulate (λ _. top) 32))
-  begins =
-      (record { readable = w .readable; inside = omega (arith, w .some, w .all) }, (ready s seq (w .readable) 0, ready s seq (w .readable) (behind windows)))
+  begins t =
+      (record { tabled = t; readable = w .readable; inside = omega (arith, w .some, w .all) }, (ready s seq (w .readable) 0, ready s seq (w .readable) (behind windows)))
 
   -- the first windows were reached
   pub reached-first : {r : Runs} {left right : List ℕ} → ReadBoth s seq (behind windows) r left right → r .block + r .at ≡ 0

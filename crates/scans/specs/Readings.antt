@@ -7,13 +7,11 @@ use mathlib.Core.Path.{_≡_}
 use lib.Bits.{bitAnd, bitXor}
 use lib.ListN.{length, getD, take, drop}
 use Rattle.definitions.specs.Lists.{all}
-use Rattle.definitions.specs.Words.{isLetter, spelled, word as wordOf}
+use Rattle.definitions.specs.Words.{capitals, letterOf, isLetter, spelled, word as wordOf}
 use Rattle.definitions.specs.Vigemins.{keyed, scan}
 use Rattle.laws.specs.Rolls.{rolled, values}
 use Rattle.laws.specs.Stamps.{lowest, leastFrom}
-use Rattle.letters.specs.Letters.{codeOf}
 use Rattle.scans.specs.declared.Settings.{Settings}
-use Rattle.scans.specs.declared.Mer.{Mer}
 use Rattle.scans.specs.declared.Run.{Run}
 use Rattle.scans.specs.declared.Runs.{Runs}
 
@@ -45,7 +43,8 @@ pub record Prepared (s : Settings) : Type 0 where
   pub placesFit : s .width + s .width ≤ s .side
   pub sideFew : s .side ≤ 4 ^ 31
   pub placesAre : (n : ℕ) → bitAnd n (s .side - 1) ≡ n % s .side
-  pub keyHigh : (v : ℕ) → bitXor (v * s .side) (s .high) ≡ bitXor v (s .key) * s .side
+  pub highIs : s .high ≡ s .key * s .side
+  pub scales : (a b : ℕ) → bitXor (a * s .side) (b * s .side) ≡ bitXor a b * s .side
 
 -- the settings of a scan by some k, m and key
 pub record SetTo (k m key : ℕ) (s : Settings) : Type 0 where
@@ -54,26 +53,27 @@ pub record SetTo (k m key : ℕ) (s : Settings) : Type 0 where
   pub mIs : s .m ≡ m
   pub keyIs : s .key ≡ key
 
--- a word of m letters, kept times the side
-pub record Rollable (s : Settings) (word : ℕ) : Type 0 where
+-- the word of some m letters as it is kept: its sum with the key, times the side
+abbrev pub keyedWord : Settings → ℕ → ℕ
+keyedWord s v = bitXor v (s .key) * s .side
+
+-- what a letter brings into a kept word, once that is shifted: its own sum with the key, and what undoes the shifted key
+abbrev pub brings : Settings → ℕ → ℕ
+brings s letter = bitXor (bitXor (letter * s .side) (s .high)) (s .high * 4 % suc top)
+
+-- for the byte of each letter what it brings
+pub record Tabled (s : Settings) (table : List ℕ) : Type 0 where
   pub prepared : Prepared s
-  pub letters : ℕ
-  pub small : letters < 4 ^ s .m
-  pub high : word ≡ letters * s .side
+  pub full : length table ≡ 85
+  pub entries : (a : ℕ) → a < 4 → getD table (getD capitals a 0) 0 ≡ brings s a
 
 -- the word of some m letters after one goes out and a byte's comes in
 abbrev pub rollOn : Settings → ℕ → ℕ → ℕ
-rollOn s v byte = (v * 4 + codeOf byte) % 4 ^ s .m
+rollOn s v byte = (v * 4 + letterOf byte) % 4 ^ s .m
 
 -- a word rolled on by a byte, whatever its letters
 abbrev pub Rolled : Settings → ℕ → ℕ → ℕ → Type 0
-Rolled s word byte r = (v : ℕ) → word ≡ v * s .side → r ≡ rollOn s v byte * s .side
-
--- the word rolled on by a byte, and its stamp at a place
-pub record Stamped (s : Settings) (word byte place : ℕ) (r : Mer) : Type 0 where
-  pub rolls : Rolled s word byte (r .word)
-  pub stamps : (v : ℕ) → word ≡ v * s .side → r .stamp ≡ bitXor (rollOn s v byte) (s .key) * s .side + place
-  pub low : r .stamp + s .side ≤ suc top + place
+Rolled s word byte r = (v : ℕ) → word ≡ keyedWord s v → r ≡ keyedWord s (rollOn s v byte)
 
 -- a sequence that a scan reads: k to 65,536 letters
 pub record Readable (s : Settings) (seq : List ℕ) : Type 0 where
@@ -103,20 +103,21 @@ pub record Minima (side width : ℕ) (vs : List ℕ) (block at run : ℕ) (ring 
   pub left : (q : ℕ) → at ≤ q → q ≤ width → getD ring q 0 ≡ leastFrom top side vs q (block + q) (width - q)
 
 -- a sequence with a window at a place, which a run begins with
-pub record Beginnable (s : Settings) (seq : List ℕ) (from : ℕ) : Type 0 where
+pub record Beginnable (s : Settings) (table seq : List ℕ) (from : ℕ) : Type 0 where
+  pub tabled : Tabled s table
   pub readable : Readable s seq
   pub inside : from + s .k ≤ length seq
 
 -- of the window at a place so many m-mers were read: the word of the letters read from there on, and the stamps in the ring
 pub record Begun (s : Settings) (seq : List ℕ) (from word at : ℕ) (ring : List ℕ) : Type 0 where
   pub within : at ≤ s .width
-  pub rolls : word ≡ rolled (s .m) (drop from (spelled seq)) (s .m - 1 + at) * s .side
+  pub rolls : word ≡ keyedWord s (rolled (s .m) (drop from (spelled seq)) (s .m - 1 + at))
   pub filled : Filled (s .side) (s .width) (values (s .m) (s .key) (spelled seq)) from at ring
 
 -- a window was read, of which the first m-mer is so far behind the start of a block: the word is that of the letters read last
 pub record Read (s : Settings) (seq : List ℕ) (block at : ℕ) (r : Run) (ring : List ℕ) : Type 0 where
   pub minima : Minima (s .side) (s .width) (values (s .m) (s .key) (spelled seq)) block at (r .least) ring
-  pub word : r .word ≡ rolled (s .m) (spelled seq) (block + at + s .k) * s .side
+  pub word : r .word ≡ keyedWord s (rolled (s .m) (spelled seq) (block + at + s .k))
 
 -- a window of each run was read, the right one so far behind the left one
 pub record ReadBoth (s : Settings) (seq : List ℕ) (from : ℕ) (r : Runs) (left right : List ℕ) : Type 0 where
@@ -137,7 +138,8 @@ pub record Turned (s : Settings) (r : Runs) (left right : List ℕ) (t : Runs) (
   pub same : t .block + t .at ≡ r .block + r .at
 
 -- a run with m-mers left in its block, of a sequence with a letter left, which stands at a place
-pub record Steppable (s : Settings) (block at : ℕ) (r : Run) (seq : List ℕ) (place : ℕ) (ring : List ℕ) : Type 0 where
+pub record Steppable (s : Settings) (table : List ℕ) (block at : ℕ) (r : Run) (seq : List ℕ) (place : ℕ) (ring : List ℕ) : Type 0 where
+  pub tabled : Tabled s table
   pub readable : Readable s seq
   pub read : Read s seq block at r ring
   pub inside : at < s .width

@@ -1,15 +1,16 @@
 // Scans: for each window of a sequence the position of its vigemin in the whole sequence, written as positions or as bytes. Assumes nothing.
+ghost use mathlib.Core.Bool.{true};
 ghost use mathlib.Core.Path.{_≡_};
 ghost use Prim.Native.Nat.{suc, _+_, _-_, _*_, _≤_, _<_};
 ghost use lib.ListN.{length, drop};
 ghost use lib.Seq.{sets};
-ghost use Rattle.definitions.specs.Words.{spelled, bytes};
+ghost use Rattle.definitions.specs.Words.{isLetter, spelled, bytes};
 ghost use Rattle.definitions.specs.Lists.{over};
 ghost use Rattle.definitions.specs.Outcomes.{scanOutcome, asBytes, scanBytesOutcome};
 ghost use Rattle.laws.specs.Accepted.{OrderAccepted};
 ghost use Rattle.laws.specs.Rolls.{rolled, values};
 ghost use Rattle.scans.specs.Answers.{scanned};
-ghost use Rattle.scans.specs.Readings.{Entries, Suffixes, SetTo, Rollable, Rolled, Stamped, Readable, Filled, Begun, Beginnable, ReadBoth, Read, Turnable, Turned, Steppable, Known, Positioned, Writable, positionsOf};
+ghost use Rattle.scans.specs.Readings.{Entries, Suffixes, Prepared, SetTo, keyedWord, brings, Tabled, Rolled, Readable, Filled, Begun, Beginnable, ReadBoth, Read, Turnable, Turned, Steppable, Known, Positioned, Writable, positionsOf};
 
 // The largest number of 64 bits: no stamp is above it.
 const TOP: u64 = 18446744073709551615;
@@ -33,8 +34,8 @@ fn suffixes(width: u64, left: &mut [u64; 32], right: &mut [u64; 32])
 }
 
 // What a scan is set to: k, m and the key; how many m-mers a window has; and the side of a stamp, which is 4^(32 - m). A stamp is a value times
-// the side plus a place below the side: the lesser of two stamps is that of the lesser value and, of equals, of the leftmost. An m-mer is kept
-// times the side, that is with its first letter in the highest bits, and so is the key.
+// the side plus a place below the side: the lesser of two stamps is that of the lesser value and, of equals, of the leftmost. An m-mer is kept as its
+// value times the side, that is keyed and with its first letter in the highest bits; `high` is the key there.
 struct Settings {
     k: u64,
     m: u64,
@@ -63,61 +64,65 @@ fn prepare(k: u64, m: u64, key: u64) -> Settings
     }
 }
 
+// What a letter brings into an m-mer that is kept: its sum with the key, and the key as the m-mer has it once shifted, which is thus undone.
+fn brought(s: Settings, letter: u64) -> u64
+    requires { ⌜ Prepared s × (letter < 4) ⌝ }
+    ensures { λ r. ⌜ r ≡ brings s letter ⌝ }
+{
+    let at_end = letter * s.side;
+    vigemins::value(at_end, s.high) ^ (s.high << 2)
+}
+
+// Writes at the byte of each letter what it brings, so that a byte is looked up as it is.
+fn set_table(s: Settings, table: &mut [u64; 85])
+    requires { ⌜ Prepared s × (length (now table) ≡ 85) ⌝ }
+    ensures { λ _. ⌜ Tabled s (now (table .exit)) ⌝ }
+{
+    table[65] = brought(s, 0);
+    table[67] = brought(s, 1);
+    table[71] = brought(s, 2);
+    table[84] = brought(s, 3);
+}
+
 // The m letters read last, once one more is read: one letter goes out, past the highest bits, and one comes in.
-fn roll(s: Settings, word: u64, byte: u8) -> u64
-    requires { ⌜ Rollable s word ⌝ }
+fn roll(s: Settings, table: &[u64; 85], word: u64, byte: u8) -> u64
+    requires { ⌜ Tabled s (now table) ⌝ }
+    requires { ⌜ isLetter byte ≡ true ⌝ }
     ensures { λ r. ⌜ Rolled s word byte r ⌝ }
 {
-    (word << 2) + letters::letter(byte) * s.side
-}
-
-// An m-mer that was read, and its stamp.
-struct Mer {
-    word: u64,
-    stamp: u64,
-}
-
-// The m-mer that ends in a byte, and its stamp as the one that is so far behind the start of its block.
-fn next_mer(s: Settings, word: u64, byte: u8, at: u64) -> Mer
-    requires { ⌜ Rollable s word ⌝ }
-    requires { ⌜ at < s .side ⌝ }
-    ensures { λ r. ⌜ Stamped s word byte at r ⌝ }
-{
-    let next = roll(s, word, byte);
-    let stamp = vigemins::value(next, s.high) + at;
-    Mer { word: next, stamp }
+    (word << 2) ^ table[byte as usize]
 }
 
 // Reads the letters of the m-mer at a place but the last one.
-fn start(s: Settings, seq: &[u8], from: u64) -> u64
-    requires { ⌜ Beginnable s (now seq) from ⌝ }
-    ensures { λ r. ⌜ r ≡ rolled (s .m) (drop from (spelled (now (seq .entry)))) (s .m - 1) * s .side ⌝ }
+fn start(s: Settings, table: &[u64; 85], seq: &[u8], from: u64) -> u64
+    requires { ⌜ Beginnable s (now table) (now seq) from ⌝ }
+    ensures { λ r. ⌜ r ≡ keyedWord s (rolled (s .m) (drop from (spelled (now (seq .entry)))) (s .m - 1)) ⌝ }
 {
     let before = s.m - 1;
-    let mut word: u64 = 0;
+    let mut word = s.high;
     let mut i: u64 = 0;
     while i < before {
         let place = from + i;
-        word = roll(s, word, seq[place as usize]);
+        word = roll(s, table, word, seq[place as usize]);
         i += 1;
     }
     word
 }
 
 // Reads a window into an empty ring, the stamps of its m-mers, and answers the m-mer read last.
-fn fill(s: Settings, seq: &[u8], from: u64, ring: &mut [u64; 32]) -> u64
-    requires { ⌜ Beginnable s (now seq) from ⌝ }
+fn fill(s: Settings, table: &[u64; 85], seq: &[u8], from: u64, ring: &mut [u64; 32]) -> u64
+    requires { ⌜ Beginnable s (now table) (now seq) from ⌝ }
     requires { ⌜ Filled (s .side) (s .width) (values (s .m) (s .key) (spelled (now seq))) from 0 (now ring) ⌝ }
     ensures { λ r. ⌜ Begun s (now (seq .entry)) from r (s .width) (now (ring .exit)) ⌝ }
 {
     let before = from + s.m - 1;
-    let mut word = start(s, seq, from);
+    let mut word = start(s, table, seq, from);
     let mut at: u64 = 0;
     while at < s.width {
         let place = before + at;
-        let mer = next_mer(s, word, seq[place as usize], at);
-        word = mer.word;
-        ring[at as usize] = mer.stamp;
+        word = roll(s, table, word, seq[place as usize]);
+        let stamp = word + at;
+        ring[at as usize] = stamp;
         at += 1;
     }
     word
@@ -139,15 +144,22 @@ struct Runs {
 }
 
 // Reads the first window of each run; the right one begins at a window.
-fn begin(s: Settings, seq: &[u8], from: u64, left: &mut [u64; 32], right: &mut [u64; 32]) -> Runs
-    requires { ⌜ Beginnable s (now seq) from ⌝ }
+fn begin(
+    s: Settings,
+    table: &[u64; 85],
+    seq: &[u8],
+    from: u64,
+    left: &mut [u64; 32],
+    right: &mut [u64; 32],
+) -> Runs
+    requires { ⌜ Beginnable s (now table) (now seq) from ⌝ }
     requires { ⌜ Filled (s .side) (s .width) (values (s .m) (s .key) (spelled (now seq))) 0 0 (now left) ⌝ }
     requires { ⌜ Filled (s .side) (s .width) (values (s .m) (s .key) (spelled (now seq))) from 0 (now right) ⌝ }
     ensures { λ r. ⌜ ReadBoth s (now (seq .entry)) from r (now (left .exit)) (now (right .exit)) ⌝ }
     ensures { λ r. ⌜ r .block + r .at ≡ 0 ⌝ }
 {
-    let word = fill(s, seq, 0, left);
-    let other = fill(s, seq, from, right);
+    let word = fill(s, table, seq, 0, left);
+    let other = fill(s, table, seq, from, right);
     suffixes(s.width, left, right);
     Runs {
         block: 0,
@@ -187,6 +199,7 @@ fn turned(s: Settings, r: Runs, left: &mut [u64; 32], right: &mut [u64; 32]) -> 
 // Reads one letter more of a run, which stands at a place of the sequence, where the block has m-mers left to be read after it.
 fn step(
     s: Settings,
+    table: &[u64; 85],
     block: u64,
     at: u64,
     r: Run,
@@ -194,17 +207,15 @@ fn step(
     place: u64,
     ring: &mut [u64; 32],
 ) -> Run
-    requires { ⌜ Steppable s block at r (now seq) place (now ring) ⌝ }
+    requires { ⌜ Steppable s (now table) block at r (now seq) place (now ring) ⌝ }
     ensures { λ t. ⌜ Read s (now (seq .entry)) block (at + 1) t (now (ring .exit)) ⌝ }
 {
-    let mer = next_mer(s, r.word, seq[place as usize], at);
-    ring[at as usize] = mer.stamp;
-    let far = mer.stamp + s.width;
+    let word = roll(s, table, r.word, seq[place as usize]);
+    let stamp = word + at;
+    ring[at as usize] = stamp;
+    let far = stamp + s.width;
     let least = powers::lesser(r.least, far);
-    Run {
-        word: mer.word,
-        least,
-    }
+    Run { word, least }
 }
 
 // The position of the vigemin of the window read last: the lesser of what is left of the block and what was read after it has its place.
@@ -219,6 +230,7 @@ fn position(s: Settings, block: u64, at: u64, r: Run, ring: &[u64; 32]) -> u64
 // Reads the window after the last one of each run; the left one ends in the letter at a place.
 fn next_windows(
     s: Settings,
+    table: &[u64; 85],
     r: Runs,
     from: u64,
     seq: &[u8],
@@ -226,7 +238,7 @@ fn next_windows(
     left: &mut [u64; 32],
     right: &mut [u64; 32],
 ) -> Runs
-    requires { ⌜ Readable s (now seq) ⌝ }
+    requires { ⌜ Tabled s (now table) × Readable s (now seq) ⌝ }
     requires { ⌜ ReadBoth s (now seq) from r (now left) (now right) ⌝ }
     requires { ⌜ (place ≡ r .block + r .at + s .k) × (place + from < length (now seq)) ⌝ }
     ensures { λ t. ⌜ ReadBoth s (now (seq .entry)) from t (now (left .exit)) (now (right .exit)) ⌝ }
@@ -240,8 +252,8 @@ fn next_windows(
     let behind = block + from;
     let end = place + from;
     let next = at + 1;
-    let one = step(s, block, at, near, seq, place, left);
-    let other = step(s, behind, at, far, seq, end, right);
+    let one = step(s, table, block, at, near, seq, place, left);
+    let other = step(s, table, behind, at, far, seq, end, right);
     Runs {
         block,
         at: next,
@@ -255,11 +267,13 @@ fn write_positions(s: Settings, seq: &[u8], windows: u64, room: &mut [u32])
     requires { ⌜ Writable s (now seq) windows 1 (now room) ⌝ }
     ensures { λ _. ⌜ now (room .exit) ≡ over (positionsOf s (now (seq .entry))) (now (room .entry)) ⌝ }
 {
+    let mut table: [u64; 85] = [0; 85];
+    set_table(s, &mut table);
     let mut left: [u64; 32] = [TOP; 32];
     let mut right: [u64; 32] = [TOP; 32];
     let half = (windows + 1) / 2;
     let from = windows - half;
-    let mut r = begin(s, seq, from, &mut left, &mut right);
+    let mut r = begin(s, &table, seq, from, &mut left, &mut right);
     let mut i: u64 = 0;
     loop {
         let near = r.left;
@@ -273,7 +287,7 @@ fn write_positions(s: Settings, seq: &[u8], windows: u64, room: &mut [u32])
             return;
         }
         let place = i + s.k - 1;
-        r = next_windows(s, r, from, seq, place, &mut left, &mut right);
+        r = next_windows(s, &table, r, from, seq, place, &mut left, &mut right);
     }
 }
 
@@ -318,11 +332,13 @@ fn write_bytes(s: Settings, seq: &[u8], windows: u64, room: &mut [u8])
     requires { ⌜ Writable s (now seq) windows 4 (now room) ⌝ }
     ensures { λ _. ⌜ now (room .exit) ≡ over (asBytes (positionsOf s (now (seq .entry)))) (now (room .entry)) ⌝ }
 {
+    let mut table: [u64; 85] = [0; 85];
+    set_table(s, &mut table);
     let mut left: [u64; 32] = [TOP; 32];
     let mut right: [u64; 32] = [TOP; 32];
     let half = (windows + 1) / 2;
     let from = windows - half;
-    let mut r = begin(s, seq, from, &mut left, &mut right);
+    let mut r = begin(s, &table, seq, from, &mut left, &mut right);
     let mut i: u64 = 0;
     loop {
         let near = r.left;
@@ -341,7 +357,7 @@ fn write_bytes(s: Settings, seq: &[u8], windows: u64, room: &mut [u8])
             return;
         }
         let place = i + s.k - 1;
-        r = next_windows(s, r, from, seq, place, &mut left, &mut right);
+        r = next_windows(s, &table, r, from, seq, place, &mut left, &mut right);
     }
 }
 

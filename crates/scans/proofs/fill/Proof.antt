@@ -4,19 +4,20 @@ use Prim.Native.Nat.{_+_, _-_}
 use mathlib.Core.Path.{_≡_, refl}
 use native.Mathlib.Nat.{add-zero}
 use native.Mathlib.Omega.{arith}
-use lib.ListN.{drop}
+use lib.ListN.{getD, drop}
 use Rattle.definitions.specs.Words.{spelled}
+use Rattle.laws.specs.Rolls.{rolled}
 use Rattle.scans.specs.Readings.{Begun}
-use Rattle.scans.proofs.Letters.{rolled-on}
+use Rattle.scans.proofs.Letters.{seq-letter, roll-room}
 use Rattle.scans.proofs.Windows.{begun-more}
 use Rattle.scans.proofs.fill.Statement.{statement}
 use Rattle.scans.proofs.fill.Tie as tie
 
 abbrev Inv-loop : tie.InvT-loop
-Inv-loop s seq from ring₀ before word₀ at₀ ring word at = Begun s seq from word at ring
+Inv-loop s table seq from ring₀ before word₀ at₀ ring word at = Begun s seq from word at ring
 
 abbrev μ-loop : tie.MeasureT-loop
-μ-loop s seq from ring₀ before word₀ at₀ ring word at = s .width - at
+μ-loop s table seq from ring₀ before word₀ at₀ ring word at = s .width - at
 
 add-before : tie.Need-add-before Inv-loop μ-loop
 add-before c =
@@ -37,17 +38,27 @@ add-place c =
     let b = c .before .before .before .before .before .before .pre .0 in
     omega (arith, b .inside, b .readable .short, b .readable .prepared .kIs)
 
-shared-slice-read-next-mer : tie.Need-shared-slice-read-next-mer Inv-loop μ-loop
-shared-slice-read-next-mer c =
+shared-slice-read-roll : tie.Need-shared-slice-read-roll Inv-loop μ-loop
+shared-slice-read-roll c =
     let b = c .before .before .before .before .before .before .before .pre .0 in
     omega (arith, b .inside, b .readable .prepared .kIs, b .readable .prepared .mSome)
 
-next-mer-requires : tie.Need-next-mer-requires Inv-loop μ-loop
-next-mer-requires c κs =
+roll-requires : tie.Need-roll-requires Inv-loop μ-loop
+roll-requires c κs =
     let start = c .before .before .before .before .before .before .before in
-    let p = start .pre .0 .readable .prepared in
-    let at = c .before .before .before .loop in
-    (rolled-on p (drop (start .args .from) (spelled (start .args .seq .now))) (start .args .s .m - 1 + at .at) (at .inv .rolls), omega (arith, p .placesFit))
+    let b = start .pre .0 in
+    let place = start .args .from + start .args .s .m - 1 + c .before .before .before .loop .at in
+    (b .tabled, seq-letter (start .args .s) (start .args .seq .now) (b .readable) place (omega (arith, b .inside, b .readable .prepared .kIs, b .readable .prepared .mSome)))
+
+add-stamp : tie.Need-add-stamp Inv-loop μ-loop
+add-stamp c =
+    let start = c .before .before .before .before .before .before .before .before in
+    let s = start .args .s in
+    let p = start .pre .0 .tabled .prepared in
+    let at = c .before .before .before .before .loop in
+    let byte = getD (start .args .seq .now) (start .args .from + s .m - 1 + at .at) 0 in
+    let v = rolled (s .m) (drop (start .args .from) (spelled (start .args .seq .now))) (s .m - 1 + at .at) in
+    omega (arith, roll-room p byte (c .roll .ensures) v (at .inv .rolls), p .placesFit)
 
 mul-ring : tie.Need-mul-ring Inv-loop μ-loop
 mul-ring c =
@@ -71,7 +82,7 @@ loop-again : tie.Need-loop-again Inv-loop μ-loop
 loop-again c =
     let start = c .before .before .before .before .before .before .before .before in
     let b = start .pre .0 in
-    begun-more (start .args .s) (start .args .seq .now) (b .readable) (start .args .from) (b .inside) (c .before .before .before .before .loop .inv) (omega arith) (refl) (c .next-mer .ensures)
+    begun-more (start .args .s) (start .args .seq .now) (b .readable) (start .args .from) (b .inside) (c .before .before .before .before .loop .inv) (omega arith) refl (c .roll .ensures)
 
 returns : tie.Need-returns Inv-loop μ-loop
 returns c =
@@ -90,8 +101,9 @@ fill-spec =
     start-requires
     loop-holds
     add-place
-    shared-slice-read-next-mer
-    next-mer-requires
+    shared-slice-read-roll
+    roll-requires
+    add-stamp
     mul-ring
     element-write-ring
     add-at

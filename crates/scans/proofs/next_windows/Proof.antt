@@ -12,30 +12,31 @@ use Rattle.scans.proofs.next_windows.Tie as tie
 turned-requires : tie.Need-turned-requires
 turned-requires c κs =
     let start = c .before .before .before in
-    record { seq = start .args .seq .now; from = start .args .from; readable = start .pre .0; read = start .pre .1 .0 }
+    record { seq = start .args .seq .now; from = start .args .from; readable = start .pre .0 .1; read = start .pre .1 .0 }
 
 add-behind : tie.Need-add-behind
 add-behind c =
     let start = c .before .before .before .before .before .before in
-    omega (arith, c .before .before .turned .ensures .same, start .pre .1 .1, start .pre .0 .short)
+    omega (arith, c .before .before .turned .ensures .same, start .pre .1 .1, start .pre .0 .1 .short)
 
 add-end : tie.Need-add-end
 add-end c =
     let start = c .before .before .before .before .before .before in
-    omega (arith, start .pre .1 .1, start .pre .0 .short)
+    omega (arith, start .pre .1 .1, start .pre .0 .1 .short)
 
 add-next : tie.Need-add-next
 add-next c =
     let start = c .before .before .before .before .before .before in
-    omega (arith, c .before .before .turned .ensures .same, start .pre .1 .1, start .pre .0 .short)
+    omega (arith, c .before .before .turned .ensures .same, start .pre .1 .1, start .pre .0 .1 .short)
 
 step-requires : tie.Need-step-requires
 step-requires c κs =
     let start = c .before .before .before .before .before .before .before in
     let t = c .before .before .before .turned .ensures in
     record {
-      readable = start .pre .0;
-      read = t .read (start .args .seq .now) (start .args .from) (start .pre .0) (start .pre .1 .0) .one;
+      tabled = start .pre .0 .0;
+      readable = start .pre .0 .1;
+      read = t .read (start .args .seq .now) (start .args .from) (start .pre .0 .1) (start .pre .1 .0) .one;
       inside = t .inside;
       there = omega (arith, t .same, start .pre .1 .1 .0);
       more = omega (arith, start .pre .1 .1);
@@ -46,8 +47,9 @@ step-requires-2 c κs =
     let start = c .before .before .before .before .before .before .before .before .before in
     let t = c .before .before .before .before .before .turned .ensures in
     record {
-      readable = start .pre .0;
-      read = t .read (start .args .seq .now) (start .args .from) (start .pre .0) (start .pre .1 .0) .other;
+      tabled = start .pre .0 .0;
+      readable = start .pre .0 .1;
+      read = t .read (start .args .seq .now) (start .args .from) (start .pre .0 .1) (start .pre .1 .0) .other;
       inside = t .inside;
       there = omega (arith, t .same, start .pre .1 .1 .0);
       more = start .pre .1 .1 .1;

@@ -54,7 +54,8 @@ module _ {k m key power : ℕ} (a : OrderAccepted k m key) (e : power ≡ powerO
               placesFit = rw side-is (omega (arith, twice-le-four (suc (31 - m)), a .kFew, a .mFits));
               sideFew = side-few;
               placesAre = λ n. rw bits (and-mask n (2 * suc (31 - m)));
-              keyHigh = λ v. rw bits (xor-scale (2 * suc (31 - m)) v key);
+              highIs = refl;
+              scales = λ a b. rw bits (xor-scale (2 * suc (31 - m)) a b);
             };
         kIs = refl;
         mIs = refl;

@@ -1,47 +1,49 @@
--- `scans::roll` meets its contract: what goes out is dropped past the highest bits, and what comes in stands where no letter was.
+-- `scans::roll` meets its contract: what goes out is dropped past the highest bits, and what the byte of a letter brings comes in.
 -- Assumes nothing.
-use Prim.Native.Nat.{ℕ, suc, _+_, _*_, _%_, _^_, _≤_}
-use mathlib.Core.Path.{_≡_}
-use native.Mathlib.Nat.{mod-lt, one-le-pow, mul-le-mul-right}
+use Prim.Native.Nat.{ℕ, _<_}
+use mathlib.Core.Bool.{true}
+use mathlib.Core.List.{List}
+use mathlib.Core.Path.{_≡_, refl, sym, ap, _∙_}
 use native.Mathlib.Omega.{arith}
 use borrow.Author.Needs.{needs}
-use Rattle.laws.specs.Numbers.{four-pos}
-use Rattle.laws.specs.Rolls.{roll-high}
-use Rattle.laws.specs.Stamps.{stamp-room}
-use Rattle.letters.specs.Letters.{codeOf, code-lt}
+use borrow.Author.Tests.{ltb-true}
+use lib.Dec.{ltb}
+use lib.ListN.{getD}
+use Rattle.definitions.specs.Words.{capitals, letterOf, isLetter}
+use Rattle.laws.specs.Numbers.{each-letter, letter-written}
 use Rattle.scans.specs.declared.Settings.{Settings}
-use Rattle.scans.specs.Readings.{top, Prepared, rollOn}
+use Rattle.scans.specs.Readings.{brings, Tabled}
+use Rattle.scans.proofs.Keys.{keyed-on}
 use Rattle.scans.proofs.roll.Statement.{statement}
 use Rattle.scans.proofs.roll.Tie as tie
 
-module _ {s : Settings} (p : Prepared s) (byte : ℕ) where
-  -- the word rolled on, whatever its letters
-  rolls : {word letter : ℕ} → letter ≡ codeOf byte → (v : ℕ) → word ≡ v * s .side
-      → word * 4 % 18446744073709551616 + letter * s .side ≡ rollOn s v byte * s .side
-  rolls e v h = rw (e, h, ← p .stampsFit) (roll-high (s .m) (s .side) v (codeOf byte) (p .mSome) (omega (arith, p .wide, p .placesFit)) (code-lt byte))
+module _ (byte : ℕ) (e : isLetter byte ≡ true) where
+  -- the letter of the byte
+  letter : letterOf byte < 4
+  letter = ltb-true (letterOf byte) 4 e
 
-  -- it is one of m letters
-  fits : (v : ℕ) → rollOn s v byte * s .side + s .side ≤ suc top
-  fits v = stamp-room top (s .side) (4 ^ s .m) (omega (arith, p .stampsFit)) (rollOn s v byte) (mod-lt (v * 4 + codeOf byte) (one-le-pow (s .m) 4 four-pos))
+  -- the table has a place for the byte
+  small : byte < 85
+  small =
+      let b : getD capitals (letterOf byte) 0 < 85 = ltb-true (getD capitals (letterOf byte) 0) 85 (each-letter (λ a. ltb (getD capitals a 0) 85) refl letter) in
+      omega (arith, letter-written {c = byte} e)
 
-letter-requires : tie.Need-letter-requires
-letter-requires c κs = search needs
+  -- what stands there
+  looked-up : {s : Settings} {table : List ℕ} → Tabled s table → getD table byte 0 ≡ brings s (letterOf byte)
+  looked-up {table = table} t = ap (λ (n : ℕ). getD table n 0) (sym (letter-written {c = byte} e)) ∙ t .entries (letterOf byte) letter
 
 mul-result : tie.Need-mul-result
-mul-result c =
-    let start = c .before .before in
-    let low : c .before .letter .result ≤ 3 = rw (c .before .letter .ensures) (omega (arith, code-lt (start .args .byte))) in
-    omega (arith, mul-le-mul-right (start .args .s .side) low, start .pre .prepared .sideFew)
+mul-result c = search needs
 
-add-result : tie.Need-add-result
-add-result c =
-    let start = c .before .before in
-    let p = start .pre .prepared in
-    let v = start .pre .letters in
-    omega (arith, rolls p (start .args .byte) (c .before .letter .ensures) v (start .pre .high), fits p (start .args .byte) v, p .wide, p .placesFit)
+element-copy-out-result : tie.Need-element-copy-out-result
+element-copy-out-result c = small (c .args .byte) (c .pre .1)
 
 returns : tie.Need-returns
-returns c = rolls (c .before .before .pre .prepared) (c .before .before .args .byte) (c .before .letter .ensures)
+returns c =
+    let start = c .before in
+    let byte = start .args .byte in
+    let t = start .pre .0 in
+    λ v e. rw (e, looked-up byte (start .pre .1) t) (keyed-on (t .prepared) v (letterOf byte) (letter byte (start .pre .1)))
 
 pub roll-spec : {M : Type 1} → statement M
-roll-spec = tie.close (tie.spec letter-requires mul-result add-result returns)
+roll-spec = tie.close (tie.spec mul-result element-copy-out-result returns)

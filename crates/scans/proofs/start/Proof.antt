@@ -1,28 +1,31 @@
 -- `scans::start` meets its contract. The loop's invariant: the word is that of the letters passed. The measure is how many are left.
 -- Assumes nothing.
 use Prim.Native.Nat.{ℕ, _+_, _-_, _*_, _≤_, _<_}
-use mathlib.Core.Path.{_≡_, refl, sym, ap, _∙_}
-use native.Mathlib.Nat.{zero-mod, zero-mul}
+use mathlib.Core.Path.{_≡_, refl, ap, _∙_}
 use native.Mathlib.Numerals.{add-one}
 use native.Mathlib.Omega.{arith}
 use lib.ListN.{length, drop}
 use Rattle.definitions.specs.Words.{spelled}
 use Rattle.laws.specs.Rolls.{rolled}
-use Rattle.scans.proofs.Letters.{rolled-on, letter-read}
+use Rattle.scans.specs.Readings.{keyedWord}
+use Rattle.scans.proofs.Keys.{keyed-none}
+use Rattle.scans.proofs.Letters.{seq-letter, letter-read}
 use Rattle.scans.proofs.start.Statement.{statement}
 use Rattle.scans.proofs.start.Tie as tie
 
 abbrev Inv-loop : tie.InvT-loop
-Inv-loop s seq from before word₀ i₀ word i = (i ≤ s .m - 1) × (word ≡ rolled (s .m) (drop from (spelled seq)) i * s .side)
+Inv-loop s table seq from before word₀ i₀ word i = (i ≤ s .m - 1) × (word ≡ keyedWord s (rolled (s .m) (drop from (spelled seq)) i))
 
 abbrev μ-loop : tie.MeasureT-loop
-μ-loop s seq from before word₀ i₀ word i = s .m - i
+μ-loop s table seq from before word₀ i₀ word i = s .m - i
 
 sub-before : tie.Need-sub-before Inv-loop μ-loop
 sub-before c = c .before .before .pre .readable .prepared .mSome
 
 loop-holds : tie.Need-loop-holds Inv-loop μ-loop
-loop-holds c = (omega arith, sym (rw (zero-mod, zero-mul)))
+loop-holds c =
+    let start = c .before .before in
+    (omega arith, keyed-none (start .pre .tabled .prepared))
 
 add-place : tie.Need-add-place Inv-loop μ-loop
 add-place c =
@@ -37,7 +40,8 @@ shared-slice-read-roll c =
 roll-requires : tie.Need-roll-requires Inv-loop μ-loop
 roll-requires c κs =
     let start = c .before .before .before .before .before in
-    rolled-on (start .pre .readable .prepared) (drop (start .args .from) (spelled (start .args .seq .now))) (c .before .before .loop .i) (c .before .before .loop .inv .1)
+    let a = start .pre in
+    (a .tabled, seq-letter (start .args .s) (start .args .seq .now) (a .readable) (start .args .from + c .before .before .loop .i) (omega (arith, a .inside, a .readable .prepared .kIs, a .readable .prepared .wide)))
 
 add-i : tie.Need-add-i Inv-loop μ-loop
 add-i c =
@@ -57,7 +61,7 @@ loop-again c =
     let a = start .pre .readable in
     let h : from + at .i < length seq = omega (arith, start .pre .inside, a .prepared .kIs, a .prepared .wide) in (
       omega arith,
-      c .roll .ensures (rolled (s .m) (drop from (spelled seq)) (at .i)) (at .inv .1) ∙ rw add-one (ap (λ (n : ℕ). n * s .side) (letter-read s seq a from (at .i) refl h)),
+      c .roll .ensures (rolled (s .m) (drop from (spelled seq)) (at .i)) (at .inv .1) ∙ rw add-one (ap (keyedWord s) (letter-read s seq a from (at .i) refl h)),
     )
 
 returns : tie.Need-returns Inv-loop μ-loop

@@ -14,86 +14,89 @@ use Rattle.scans.proofs.write_bytes.Statement.{statement}
 use Rattle.scans.proofs.write_bytes.Tie as tie
 
 abbrev Inv-loop : tie.InvT-loop
-Inv-loop s seq windows room₀ left₀ right₀ half from r₀ i₀ room left right r i =
+Inv-loop s seq windows room₀ table left₀ right₀ half from r₀ i₀ room left right r i =
     Reached s seq windows i r left right
     × Laid (over (asBytes (positionsOf s seq)) room₀) 4 windows (behind windows) i room
     × (length room ≡ length room₀)
 
 abbrev μ-loop : tie.MeasureT-loop
-μ-loop s seq windows room₀ left₀ right₀ half from r₀ i₀ room left right r i = windows - i
+μ-loop s seq windows room₀ table left₀ right₀ half from r₀ i₀ room left right r i = windows - i
+
+set-table-requires : tie.Need-set-table-requires Inv-loop μ-loop
+set-table-requires c κs = (c .before .before .before .pre .readable .prepared, refl)
 
 add-half : tie.Need-add-half Inv-loop μ-loop
 add-half c =
-    let w = c .before .before .pre in
+    let w = c .before .before .before .before .pre in
     omega (arith, w .all, w .readable .short)
 
 sub-from : tie.Need-sub-from Inv-loop μ-loop
-sub-from c = omega (arith, c .before .before .pre .some)
+sub-from c = omega (arith, c .before .before .before .before .pre .some)
 
 begin-requires : tie.Need-begin-requires Inv-loop μ-loop
-begin-requires c κs = begins (c .before .before .before .before .pre)
+begin-requires c κs = begins (c .before .before .before .before .before .before .before .pre) (c .before .before .before .set-table .ensures)
 
 loop-holds : tie.Need-loop-holds Inv-loop μ-loop
 loop-holds c =
-    let start = c .before .before .before .before .before in
+    let start = c .before .before .before .before .before .before .before .before in
     let w = start .pre in
     let ps = positionsOf (start .args .s) (start .args .seq .now) in
     (reached-first w (c .begin .ensures .0) (c .begin .ensures .1), laid-none (bytes-laid ps (length-positions w)) (start .args .room .now) (w .fits) (behind (start .args .windows)), refl)
 
 mul-to : tie.Need-mul-to Inv-loop μ-loop
 mul-to c =
-    let w = c .before .before .before .before .before .before .before .pre in
+    let w = c .before .before .before .before .before .before .before .before .before .before .pre in
     omega (arith, w .all, w .readable .short, c .before .loop .inv .0 .within)
 
 position-requires : tie.Need-position-requires Inv-loop μ-loop
 position-requires c κs =
-    let start = c .before .before .before .before .before .before .before .before in
+    let start = c .before .before .before .before .before .before .before .before .before .before .before in
     record { seq = start .args .seq .now; readable = start .pre .readable; read = c .before .before .loop .inv .0 .read .one }
 
 put-requires : tie.Need-put-requires Inv-loop μ-loop
 put-requires c κs =
     let at = c .before .before .before .before .loop in
-    omega (arith, c .before .before .before .before .before .before .before .before .before .before .pre .fits, at .inv .0 .within, at .inv .2)
+    omega (arith, c .before .before .before .before .before .before .before .before .before .before .before .before .before .pre .fits, at .inv .0 .within, at .inv .2)
 
 add-behind : tie.Need-add-behind Inv-loop μ-loop
 add-behind c =
-    let w = c .before .before .before .before .before .before .before .before .before .before .before .before .before .before .before .pre in
+    let w = c .before .before .before .before .before .before .before .before .before .before .before .before .before .before .before .before .before .before .pre in
     let at = c .before .before .before .before .before .before .before .before .before .loop in
     omega (arith, w .all, w .readable .short, at .inv .0 .within, at .inv .0 .last)
 
 mul-beyond : tie.Need-mul-beyond Inv-loop μ-loop
 mul-beyond c =
-    let w = c .before .before .before .before .before .before .before .before .before .before .before .before .before .before .before .pre in
+    let w = c .before .before .before .before .before .before .before .before .before .before .before .before .before .before .before .before .before .before .pre in
     omega (arith, w .all, w .readable .short)
 
 add-beyond : tie.Need-add-beyond Inv-loop μ-loop
 add-beyond c =
-    let w = c .before .before .before .before .before .before .before .before .before .before .before .before .before .before .before .pre in
+    let w = c .before .before .before .before .before .before .before .before .before .before .before .before .before .before .before .before .before .before .pre in
     omega (arith, w .all, w .readable .short, c .before .before .before .before .before .before .before .before .before .loop .inv .0 .within)
 
 position-requires-2 : tie.Need-position-requires-2 Inv-loop μ-loop
 position-requires-2 c κs =
-    let start = c .before .before .before .before .before .before .before .before .before .before .before .before .before .before .before .before in
+    let start = c .before .before .before .before .before .before .before .before .before .before .before .before .before .before .before .before .before .before .before in
     record { seq = start .args .seq .now; readable = start .pre .readable; read = c .before .before .before .before .before .before .before .before .before .before .loop .inv .0 .read .other }
 
 put-requires-2 : tie.Need-put-requires-2 Inv-loop μ-loop
 put-requires-2 c κs =
     let at = c .before .before .before .before .before .before .before .before .before .before .before .before .loop in
-    omega (arith, c .before .before .before .before .before .before .before .before .before .before .before .before .before .before .before .before .before .before .pre .fits, at .inv .0 .within, at .inv .2, c .before .before .before .before .before .before .before .put .kept .1 .1 .0)
+    omega (arith, c .before .before .before .before .before .before .before .before .before .before .before .before .before .before .before .before .before .before .before .before .before .pre .fits, at .inv .0 .within, at .inv .2, c .before .before .before .before .before .before .before .put .kept .1 .1 .0)
 
 add-i : tie.Need-add-i Inv-loop μ-loop
 add-i c =
-    let w = c .before .before .before .before .before .before .before .before .before .before .before .before .before .before .before .before .before .before .before .before .before .pre in
+    let w = c .before .before .before .before .before .before .before .before .before .before .before .before .before .before .before .before .before .before .before .before .before .before .before .before .pre in
     omega (arith, w .all, w .readable .short, c .before .before .before .before .before .before .before .before .before .before .before .before .before .before .before .loop .inv .0 .within)
 
 -- each run has written one position more
 wrote : (c : tie.After-put2 Inv-loop μ-loop)
-    → (let start = c .before .before .before .before .before .before .before .before .before .before .before .before .before .before .before .before .before .before .before in
+    → (let start = c .before .before .before .before .before .before .before .before .before .before .before .before .before .before .before .before .before .before .before .before .before .before in
     let room = c .put2 .last .1 .1 .0 in
     Laid (over (asBytes (positionsOf (start .args .s) (start .args .seq .now))) (start .args .room .now)) 4 (start .args .windows) (behind (start .args .windows)) (c .before .before .before .before .before .before .before .before .before .before .before .before .before .loop .i + 1) room
     × (length room ≡ length (start .args .room .now)))
 wrote c =
-    let start = c .before .before .before .before .before .before .before .before .before .before .before .before .before .before .before .before .before .before .before in
+    let start = c .before .before .before .before .before .before .before .before .before .before .before .before .before .before .before .before .before .before .before .before .before .before in
     let at = c .before .before .before .before .before .before .before .before .before .before .before .before .before .loop in
     let w = start .pre in
     let ps = positionsOf (start .args .s) (start .args .seq .now) in
@@ -109,14 +112,14 @@ same-length c = wrote (c .before .before .before) .1
 
 returns : tie.Need-returns Inv-loop μ-loop
 returns c =
-    let start = c .before .before .before .before .before .before .before .before .before .before .before .before .before .before .before .before .before .before .before .before .before .before in
+    let start = c .before .before .before .before .before .before .before .before .before .before .before .before .before .before .before .before .before .before .before .before .before .before .before .before .before in
     let w = start .pre in
     let ps = positionsOf (start .args .s) (start .args .seq .now) in
     laid-all (bytes-laid ps (length-positions w)) (start .args .room .now) (w .fits) (wrote (c .before .before .before) .0) (omega arith) (omega arith)
 
 add-place : tie.Need-add-place Inv-loop μ-loop
 add-place c =
-    let w = c .before .before .before .before .before .before .before .before .before .before .before .before .before .before .before .before .before .before .before .before .before .before .before .pre in
+    let w = c .before .before .before .before .before .before .before .before .before .before .before .before .before .before .before .before .before .before .before .before .before .before .before .before .before .before .pre in
     omega (arith, w .all, w .readable .short, w .readable .prepared .kFew, c .before .before .before .before .before .before .before .before .before .before .before .before .before .before .before .before .before .loop .inv .0 .within)
 
 sub-place : tie.Need-sub-place Inv-loop μ-loop
@@ -124,18 +127,18 @@ sub-place c = omega arith
 
 next-windows-requires : tie.Need-next-windows-requires Inv-loop μ-loop
 next-windows-requires c κs =
-    let w = c .before .before .before .before .before .before .before .before .before .before .before .before .before .before .before .before .before .before .before .before .before .before .before .before .before .pre in
-    let at = c .before .before .before .before .before .before .before .before .before .before .before .before .before .before .before .before .before .before .before .loop in
-    (w .readable, (at .inv .0 .read, next-place w (at .inv .0) (c .before .before .before .if1 .left)))
+    let w = c .before .before .before .before .before .before .before .before .before .before .before .before .before .before .before .before .before .before .before .before .before .before .before .before .before .before .before .before .before .pre in
+    let at = c .before .before .before .before .before .before .before .before .before .before .before .before .before .before .before .before .before .before .before .before .loop in
+    ((c .before .before .before .before .before .before .before .before .before .before .before .before .before .before .before .before .before .before .before .before .before .before .before .before .before .set-table .ensures, w .readable), (at .inv .0 .read, next-place w (at .inv .0) (c .before .before .before .before .if1 .left)))
 
 loop-less : tie.Need-loop-less Inv-loop μ-loop
-loop-less c = omega (arith, c .before .before .before .before .before .before .before .before .before .before .before .before .before .before .before .before .before .before .before .before .loop .inv .0 .within)
+loop-less c = omega (arith, c .before .before .before .before .before .before .before .before .before .before .before .before .before .before .before .before .before .before .before .before .before .loop .inv .0 .within)
 
 loop-again : tie.Need-loop-again Inv-loop μ-loop
 loop-again c =
-    let at = c .before .before .before .before .before .before .before .before .before .before .before .before .before .before .before .before .before .before .before .before .loop in
-    let now = wrote (c .before .before .before .before .before .before .before) in
-    (reached-next (c .before .before .before .before .before .before .before .before .before .before .before .before .before .before .before .before .before .before .before .before .before .before .before .before .before .before .pre) (at .inv .0) (c .before .before .before .before .if1 .left) (c .next-windows .ensures .0) (c .next-windows .ensures .1), now .0, now .1)
+    let at = c .before .before .before .before .before .before .before .before .before .before .before .before .before .before .before .before .before .before .before .before .before .loop in
+    let now = wrote (c .before .before .before .before .before .before .before .before) in
+    (reached-next (c .before .before .before .before .before .before .before .before .before .before .before .before .before .before .before .before .before .before .before .before .before .before .before .before .before .before .before .before .before .before .pre) (at .inv .0) (c .before .before .before .before .before .if1 .left) (c .next-windows .ensures .0) (c .next-windows .ensures .1), now .0, now .1)
 
 pub write-bytes-spec : {M : Type 1} → statement M
 write-bytes-spec =
@@ -143,6 +146,7 @@ write-bytes-spec =
     (tie.spec
     Inv-loop
     μ-loop
+    set-table-requires
     add-half
     sub-from
     begin-requires
