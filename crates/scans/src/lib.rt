@@ -69,8 +69,8 @@ fn brought(s: Settings, letter: u64) -> u64
     requires { ⌜ Prepared s × (letter < 4) ⌝ }
     ensures { λ r. ⌜ r ≡ brings s letter ⌝ }
 {
-    let at_end = letter * s.side;
-    vigemins::value(at_end, s.high) ^ (s.high << 2)
+    let last = letter * s.side;
+    vigemins::value(last, s.high) ^ (s.high << 2)
 }
 
 // Writes at the byte of each letter what it brings, so that a byte is looked up as it is.
