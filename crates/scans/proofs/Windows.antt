@@ -16,7 +16,7 @@ use Rattle.laws.specs.Rolls.{rolled, values}
 use Rattle.scans.specs.declared.Settings.{Settings}
 use Rattle.scans.specs.declared.Run.{Run}
 use Rattle.scans.specs.declared.Runs.{Runs}
-use Rattle.scans.specs.Readings.{top, Entries, Suffixes, keyedWord, Tabled, Rolled, Readable, Filled, Minima, Beginnable, Begun, Read, ReadBoth, Steppable, Positioned, Writable, positionsOf}
+use Rattle.scans.specs.Readings.{top, Entries, Suffixes, keyedWord, Tabled, Rolled, Readable, Filled, Minima, Beginnable, Begun, Read, ReadBoth, Stepped, Positioned, Writable, positionsOf}
 use Rattle.scans.proofs.Blocks.{filled-entries, filled-more, filled-minima, minima-filled, minima-more, minima-place}
 use Rattle.scans.proofs.Letters.{length-mers, mers, rolled-from, mer-read, window-position}
 
@@ -82,28 +82,27 @@ module _ (s : Settings) (seq : List ℕ) (a : Readable s seq) where
       omega (arith, inside .1, block-inside d, a .short, a .prepared .mSome)
 
   -- the next window is read
-  pub step-read : {block at : ℕ} {table : List ℕ} {r : Run} {place : ℕ} {ring : List ℕ} → Steppable s table block at r seq place ring
-      → {word : ℕ} → Rolled s (r .word) (getD seq place 0) word → {least : ℕ} → least ≡ min (r .least) (word + at + s .width)
-      → Read s seq block (at + 1) (record { word = word; least = least }) (set ring at (word + at))
-  step-read {block} {at} {r = r} {place = place} {ring = ring} b {word} st {least} q =
+  pub step-read : {at place : ℕ} {r : Run} {ring : List ℕ} → at < s .width → place < length seq → {word : ℕ} → Rolled s (r .word) (getD seq place 0) word
+      → {least : ℕ} → least ≡ min (r .least) (word + at + s .width)
+      → Stepped s at r seq place ring (record { word = word; least = least }) (set ring at (word + at))
+  step-read {at} {place} {r} {ring} inside inSeq {word} st {least} q block there d =
       record { minima = more; word = got .0 ∙ ap (λ (t : ℕ). keyedWord s (rolled (s .m) (spelled seq) t)) letters }
     where
       vs : List ℕ
       vs = values (s .m) (s .key) (spelled seq)
 
       letters : suc place ≡ block + (at + 1) + s .k
-      letters = omega (arith, b .there)
+      letters = omega arith
 
       got : (word ≡ keyedWord s (rolled (s .m) (spelled seq) (suc place))) × (word ≡ getD vs (block + s .width + at) 0 * s .side)
       got =
-          mer-read s seq a 0 place (block + s .width + at) (omega arith) (b .more) (omega (arith, b .there, a .prepared .kIs))
-          (omega (arith, b .there, a .prepared .kIs)) (rw (b .there) (b .read .word)) st
+          mer-read s seq a 0 place (block + s .width + at) (omega arith) inSeq (omega (arith, a .prepared .kIs))
+          (omega (arith, a .prepared .kIs)) (rw there (d .word)) st
 
       more : Minima (s .side) (s .width) vs block (at + 1) least (set ring at (word + at))
       more =
           rw (q, got .1, add-one)
-          (minima-more (s .side) (s .width) (4 ^ s .m) vs (mers s seq a) (b .read .minima) (b .inside)
-          (omega (arith, b .there, b .more, length-mers s seq a, a .prepared .kIs)))
+          (minima-more (s .side) (s .width) (4 ^ s .m) vs (mers s seq a) (d .minima) inside (omega (arith, length-mers s seq a, a .prepared .kIs)))
 
   -- ---- the first window of a run
 

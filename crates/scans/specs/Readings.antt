@@ -75,6 +75,10 @@ rollOn s v byte = (v * 4 + letterOf byte) % 4 ^ s .m
 abbrev pub Rolled : Settings → ℕ → ℕ → ℕ → Type 0
 Rolled s word byte r = (v : ℕ) → word ≡ keyedWord s v → r ≡ keyedWord s (rollOn s v byte)
 
+-- a word rolled on by a byte, whatever the settings of the table
+abbrev pub Rolls : List ℕ → ℕ → ℕ → ℕ → Type 0
+Rolls table word byte r = (s : Settings) → Tabled s table → Rolled s word byte r
+
 -- a sequence that a scan reads: k to 65,536 letters
 pub record Readable (s : Settings) (seq : List ℕ) : Type 0 where
   pub prepared : Prepared s
@@ -138,13 +142,18 @@ pub record Turned (s : Settings) (r : Runs) (left right : List ℕ) (t : Runs) (
   pub same : t .block + t .at ≡ r .block + r .at
 
 -- a run with m-mers left in its block, of a sequence with a letter left, which stands at a place
-pub record Steppable (s : Settings) (table : List ℕ) (block at : ℕ) (r : Run) (seq : List ℕ) (place : ℕ) (ring : List ℕ) : Type 0 where
+pub record Steppable (s : Settings) (table : List ℕ) (at : ℕ) (r : Run) (seq : List ℕ) (place : ℕ) (ring : List ℕ) : Type 0 where
   pub tabled : Tabled s table
   pub readable : Readable s seq
+  pub block : ℕ
   pub read : Read s seq block at r ring
   pub inside : at < s .width
   pub there : place ≡ block + at + s .k
   pub more : place < length seq
+
+-- the next window was read, whatever the block
+abbrev pub Stepped : Settings → ℕ → Run → List ℕ → ℕ → List ℕ → Run → List ℕ → Type 0
+Stepped s at r seq place ring t new = (block : ℕ) → place ≡ block + at + s .k → Read s seq block at r ring → Read s seq block (at + 1) t new
 
 -- a run that has read a window of some sequence
 pub record Known (s : Settings) (block at : ℕ) (r : Run) (ring : List ℕ) : Type 0 where

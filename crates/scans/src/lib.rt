@@ -10,7 +10,7 @@ ghost use Rattle.definitions.specs.Outcomes.{scanOutcome, asBytes, scanBytesOut
 ghost use Rattle.laws.specs.Accepted.{OrderAccepted};
 ghost use Rattle.laws.specs.Rolls.{rolled, values};
 ghost use Rattle.scans.specs.Answers.{scanned};
-ghost use Rattle.scans.specs.Readings.{Entries, Suffixes, Prepared, SetTo, keyedWord, brings, Tabled, Rolled, Readable, Filled, Begun, Beginnable, ReadBoth, Read, Turnable, Turned, Steppable, Known, Positioned, Writable, positionsOf};
+ghost use Rattle.scans.specs.Readings.{Entries, Suffixes, Prepared, SetTo, keyedWord, brings, Tabled, Rolls, Readable, Filled, Begun, Beginnable, ReadBoth, Turnable, Turned, Steppable, Stepped, Known, Positioned, Writable, positionsOf};
 
 // The largest number of 64 bits: no stamp is above it.
 const TOP: u64 = 18446744073709551615;
@@ -78,17 +78,16 @@ fn set_table(s: Settings, table: &mut [u64; 85])
     requires { ⌜ Prepared s × (length (now table) ≡ 85) ⌝ }
     ensures { λ _. ⌜ Tabled s (now (table .exit)) ⌝ }
 {
-    table[65] = brought(s, 0);
-    table[67] = brought(s, 1);
-    table[71] = brought(s, 2);
-    table[84] = brought(s, 3);
+    table[b'A' as usize] = brought(s, 0);
+    table[b'C' as usize] = brought(s, 1);
+    table[b'G' as usize] = brought(s, 2);
+    table[b'T' as usize] = brought(s, 3);
 }
 
 // The m letters read last, once one more is read: one letter goes out, past the highest bits, and one comes in.
-fn roll(s: Settings, table: &[u64; 85], word: u64, byte: u8) -> u64
-    requires { ⌜ Tabled s (now table) ⌝ }
+fn roll(table: &[u64; 85], word: u64, byte: u8) -> u64
     requires { ⌜ isLetter byte ≡ true ⌝ }
-    ensures { λ r. ⌜ Rolled s word byte r ⌝ }
+    ensures { λ r. ⌜ Rolls (now (table .entry)) word byte r ⌝ }
 {
     (word << 2) ^ table[byte as usize]
 }
@@ -98,12 +97,11 @@ fn start(s: Settings, table: &[u64; 85], seq: &[u8], from: u64) -> u64
     requires { ⌜ Beginnable s (now table) (now seq) from ⌝ }
     ensures { λ r. ⌜ r ≡ keyedWord s (rolled (s .m) (drop from (spelled (now (seq .entry)))) (s .m - 1)) ⌝ }
 {
-    let before = s.m - 1;
     let mut word = s.high;
     let mut i: u64 = 0;
-    while i < before {
+    while i + 1 < s.m {
         let place = from + i;
-        word = roll(s, table, word, seq[place as usize]);
+        word = roll(table, word, seq[place as usize]);
         i += 1;
     }
     word
@@ -120,7 +118,7 @@ fn fill(s: Settings, table: &[u64; 85], seq: &[u8], from: u64, ring: &mut [u64; 
     let mut at: u64 = 0;
     while at < s.width {
         let place = before + at;
-        word = roll(s, table, word, seq[place as usize]);
+        word = roll(table, word, seq[place as usize]);
         let stamp = word + at;
         ring[at as usize] = stamp;
         at += 1;
@@ -200,17 +198,16 @@ fn turned(s: Settings, r: Runs, left: &mut [u64; 32], right: &mut [u64; 32]) -> 
 fn step(
     s: Settings,
     table: &[u64; 85],
-    block: u64,
     at: u64,
     r: Run,
     seq: &[u8],
     place: u64,
     ring: &mut [u64; 32],
 ) -> Run
-    requires { ⌜ Steppable s (now table) block at r (now seq) place (now ring) ⌝ }
-    ensures { λ t. ⌜ Read s (now (seq .entry)) block (at + 1) t (now (ring .exit)) ⌝ }
+    requires { ⌜ Steppable s (now table) at r (now seq) place (now ring) ⌝ }
+    ensures { λ t. ⌜ Stepped s at r (now (seq .entry)) place (now (ring .entry)) t (now (ring .exit)) ⌝ }
 {
-    let word = roll(s, table, r.word, seq[place as usize]);
+    let word = roll(table, r.word, seq[place as usize]);
     let stamp = word + at;
     ring[at as usize] = stamp;
     let far = stamp + s.width;
@@ -245,17 +242,14 @@ fn next_windows(
     ensures { λ t. ⌜ t .block + t .at ≡ suc (r .block + r .at) ⌝ }
 {
     let t = turned(s, r, left, right);
-    let block = t.block;
-    let at = t.at;
     let near = t.left;
     let far = t.right;
-    let behind = block + from;
     let end = place + from;
-    let next = at + 1;
-    let one = step(s, table, block, at, near, seq, place, left);
-    let other = step(s, table, behind, at, far, seq, end, right);
+    let next = t.at + 1;
+    let one = step(s, table, t.at, near, seq, place, left);
+    let other = step(s, table, t.at, far, seq, end, right);
     Runs {
-        block,
+        block: t.block,
         at: next,
         left: one,
         right: other,
@@ -326,8 +320,8 @@ fn put(position: u64, place: usize, room: &mut [u8])
     room[place + 3] = (position % 256) as u8;
 }
 
-// Writes the position for each window at the front of the room, as bytes. Between the two stores of a window something is read from a ring, so that the
-// compiler makes one store of the four bytes of each.
+// Writes the position for each window at the front of the room, as bytes. A ring is read between the two: the compiler then makes one store of the
+// four bytes of each, and else eight stores of a byte.
 fn write_bytes(s: Settings, seq: &[u8], windows: u64, room: &mut [u8])
     requires { ⌜ Writable s (now seq) windows 4 (now room) ⌝ }
     ensures { λ _. ⌜ now (room .exit) ≡ over (asBytes (positionsOf s (now (seq .entry)))) (now (room .entry)) ⌝ }

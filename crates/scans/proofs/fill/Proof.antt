@@ -48,17 +48,17 @@ roll-requires c κs =
     let start = c .before .before .before .before .before .before .before in
     let b = start .pre .0 in
     let place = start .args .from + start .args .s .m - 1 + c .before .before .before .loop .at in
-    (b .tabled, seq-letter (start .args .s) (start .args .seq .now) (b .readable) place (omega (arith, b .inside, b .readable .prepared .kIs, b .readable .prepared .mSome)))
+    seq-letter (start .args .s) (start .args .seq .now) (b .readable) place (omega (arith, b .inside, b .readable .prepared .kIs, b .readable .prepared .mSome))
 
 add-stamp : tie.Need-add-stamp Inv-loop μ-loop
 add-stamp c =
     let start = c .before .before .before .before .before .before .before .before in
     let s = start .args .s in
-    let p = start .pre .0 .tabled .prepared in
+    let t = start .pre .0 .tabled in
     let at = c .before .before .before .before .loop in
     let byte = getD (start .args .seq .now) (start .args .from + s .m - 1 + at .at) 0 in
     let v = rolled (s .m) (drop (start .args .from) (spelled (start .args .seq .now))) (s .m - 1 + at .at) in
-    omega (arith, roll-room p byte (c .roll .ensures) v (at .inv .rolls), p .placesFit)
+    omega (arith, roll-room t byte (c .roll .ensures) v (at .inv .rolls), t .prepared .placesFit)
 
 mul-ring : tie.Need-mul-ring Inv-loop μ-loop
 mul-ring c =
@@ -82,7 +82,7 @@ loop-again : tie.Need-loop-again Inv-loop μ-loop
 loop-again c =
     let start = c .before .before .before .before .before .before .before .before in
     let b = start .pre .0 in
-    begun-more (start .args .s) (start .args .seq .now) (b .readable) (start .args .from) (b .inside) (c .before .before .before .before .loop .inv) (omega arith) refl (c .roll .ensures)
+    begun-more (start .args .s) (start .args .seq .now) (b .readable) (start .args .from) (b .inside) (c .before .before .before .before .loop .inv) (omega arith) refl (c .roll .ensures (start .args .s) (b .tabled))
 
 returns : tie.Need-returns Inv-loop μ-loop
 returns c =

@@ -14,11 +14,6 @@ turned-requires c κs =
     let start = c .before .before .before in
     record { seq = start .args .seq .now; from = start .args .from; readable = start .pre .0 .1; read = start .pre .1 .0 }
 
-add-behind : tie.Need-add-behind
-add-behind c =
-    let start = c .before .before .before .before .before .before in
-    omega (arith, c .before .before .turned .ensures .same, start .pre .1 .1, start .pre .0 .1 .short)
-
 add-end : tie.Need-add-end
 add-end c =
     let start = c .before .before .before .before .before .before in
@@ -26,17 +21,26 @@ add-end c =
 
 add-next : tie.Need-add-next
 add-next c =
-    let start = c .before .before .before .before .before .before in
-    omega (arith, c .before .before .turned .ensures .same, start .pre .1 .1, start .pre .0 .1 .short)
+    let start = c .before .before .before .before .before .before .before in
+    omega (arith, c .before .before .before .turned .ensures .same, start .pre .1 .1, start .pre .0 .1 .short)
+
+-- the windows that were read, in blocks with m-mers left to be read after them
+read : (c : tie.After-turned)
+    → (let start = c .before .before .before .before in
+    ReadBoth (start .args .s) (start .args .seq .now) (start .args .from) (c .turned .result) (c .turned .last .1 .1 .0) (c .turned .last .1 .1 .1 .0))
+read c =
+    let start = c .before .before .before .before in
+    c .turned .ensures .read (start .args .seq .now) (start .args .from) (start .pre .0 .1) (start .pre .1 .0)
 
 step-requires : tie.Need-step-requires
 step-requires c κs =
-    let start = c .before .before .before .before .before .before .before in
-    let t = c .before .before .before .turned .ensures in
+    let start = c .before .before .before .before .before .before .before .before in
+    let t = c .before .before .before .before .turned .ensures in
     record {
       tabled = start .pre .0 .0;
       readable = start .pre .0 .1;
-      read = t .read (start .args .seq .now) (start .args .from) (start .pre .0 .1) (start .pre .1 .0) .one;
+      block = c .before .before .before .before .turned .result .block;
+      read = read (c .before .before .before .before) .one;
       inside = t .inside;
       there = omega (arith, t .same, start .pre .1 .1 .0);
       more = omega (arith, start .pre .1 .1);
@@ -44,12 +48,13 @@ step-requires c κs =
 
 step-requires-2 : tie.Need-step-requires-2
 step-requires-2 c κs =
-    let start = c .before .before .before .before .before .before .before .before .before in
-    let t = c .before .before .before .before .before .turned .ensures in
+    let start = c .before .before .before .before .before .before .before .before .before .before in
+    let t = c .before .before .before .before .before .before .turned .ensures in
     record {
       tabled = start .pre .0 .0;
       readable = start .pre .0 .1;
-      read = t .read (start .args .seq .now) (start .args .from) (start .pre .0 .1) (start .pre .1 .0) .other;
+      block = c .before .before .before .before .before .before .turned .result .block + start .args .from;
+      read = read (c .before .before .before .before .before .before) .other;
       inside = t .inside;
       there = omega (arith, t .same, start .pre .1 .1 .0);
       more = start .pre .1 .1 .1;
@@ -57,8 +62,14 @@ step-requires-2 c κs =
 
 returns : tie.Need-returns
 returns c =
-    let start = c .before .before .before .before .before .before .before .before .before .before in
-    (record { one = c .before .before .step .ensures; other = c .step2 .ensures }, omega (arith, c .before .before .before .before .before .before .turned .ensures .same))
+    let start = c .before .before .before .before .before .before .before .before .before .before .before in
+    let t = c .before .before .before .before .before .before .before .turned in
+    let r = read (c .before .before .before .before .before .before .before) in
+    let there : start .args .place ≡ t .result .block + t .result .at + start .args .s .k = omega (arith, t .ensures .same, start .pre .1 .1 .0) in
+    let behind : start .args .place + start .args .from ≡ t .result .block + start .args .from + t .result .at + start .args .s .k = omega arith in (
+      record { one = c .before .before .step .ensures (t .result .block) there (r .one); other = c .step2 .ensures (t .result .block + start .args .from) behind (r .other) },
+      omega (arith, t .ensures .same),
+    )
 
 pub next-windows-spec : {M : Type 1} → statement M
-next-windows-spec = tie.close (tie.spec turned-requires add-behind add-end add-next step-requires step-requires-2 returns)
+next-windows-spec = tie.close (tie.spec turned-requires add-end add-next step-requires step-requires-2 returns)

@@ -36,14 +36,13 @@ mul-result : tie.Need-mul-result
 mul-result c = search needs
 
 element-copy-out-result : tie.Need-element-copy-out-result
-element-copy-out-result c = small (c .args .byte) (c .pre .1)
+element-copy-out-result c = small (c .args .byte) (c .pre)
 
 returns : tie.Need-returns
 returns c =
-    let start = c .before in
-    let byte = start .args .byte in
-    let t = start .pre .0 in
-    λ v e. rw (e, looked-up byte (start .pre .1) t) (keyed-on (t .prepared) v (letterOf byte) (letter byte (start .pre .1)))
+    let byte = c .before .args .byte in
+    let letters = c .before .pre in
+    λ s t v e. rw (e, looked-up byte letters t) (keyed-on (t .prepared) v (letterOf byte) (letter byte letters))
 
 pub roll-spec : {M : Type 1} → statement M
 roll-spec = tie.close (tie.spec mul-result element-copy-out-result returns)

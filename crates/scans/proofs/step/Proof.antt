@@ -18,7 +18,7 @@ shared-slice-read-roll c = search needs
 roll-requires : tie.Need-roll-requires
 roll-requires c κs =
     let start = c .before .before in
-    (start .pre .tabled, seq-letter (start .args .s) (start .args .seq .now) (start .pre .readable) (start .args .place) (start .pre .more))
+    seq-letter (start .args .s) (start .args .seq .now) (start .pre .readable) (start .args .place) (start .pre .more)
 
 -- behind the word every place below the side fits
 room : (c : tie.After-roll) → c .roll .result + c .before .before .before .args .s .side ≤ suc top
@@ -26,8 +26,8 @@ room c =
     let start = c .before .before .before in
     let s = start .args .s in
     let seq = start .args .seq .now in
-    let v = rolled (s .m) (spelled seq) (start .args .block + start .args .at + s .k) in
-    roll-room (start .pre .tabled .prepared) (getD seq (start .args .place) 0) (c .roll .ensures) v (start .pre .read .word)
+    let v = rolled (s .m) (spelled seq) (start .pre .block + start .args .at + s .k) in
+    roll-room (start .pre .tabled) (getD seq (start .args .place) 0) (c .roll .ensures) v (start .pre .read .word)
 
 add-stamp : tie.Need-add-stamp
 add-stamp c =
@@ -51,7 +51,7 @@ lesser-requires c κs = search needs
 returns : tie.Need-returns
 returns c =
     let start = c .before .before .before .before .before in
-    step-read (start .args .s) (start .args .seq .now) (start .pre .readable) (start .pre) (c .before .before .roll .ensures) (c .lesser .ensures)
+    step-read (start .args .s) (start .args .seq .now) (start .pre .readable) (start .pre .inside) (start .pre .more) (c .before .before .roll .ensures (start .args .s) (start .pre .tabled)) (c .lesser .ensures)
 
 pub step-spec : {M : Type 1} → statement M
 step-spec =
