@@ -5,6 +5,7 @@
 -- Letters       a sequence that is read: its values, the m-mer that ends in a letter, the position for a window
 -- Windows       a window that was read, and the next one
 -- Rooms         room that two runs write side by side
+-- Writes        two runs that write the entries for their windows
 -- Scans         the answer of a scan, for any entries that stand for the positions
 -- Determined    the contracts take every input and determine the outcomes
 pub mod Blocks
@@ -12,5 +13,6 @@ pub mod Keys
 pub mod Letters
 pub mod Windows
 pub mod Rooms
+pub mod Writes
 pub mod Scans
 pub mod Determined

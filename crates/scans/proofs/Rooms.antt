@@ -134,23 +134,23 @@ module _ {ps : List ℕ} {count each : ℕ} {entry : ℕ → List ℕ} {new : Li
   laid-none from = record { placed = rw (mul-zero, add-zero) (placed-none new old (rw (l .long) fits) (sym (l .long))) }
 
   -- an entry that is to be there
-  entry-part : (i : ℕ) {place x : ℕ} → i < count → place ≡ each * i → x ≡ getD ps i 0 → Part (over new old) place (entry x) × (place + length (entry x) ≤ length (over new old))
-  entry-part i {place} {x} h e q =
+  entry-part : (i : ℕ) → i < count → (let new-entry = entry (getD ps i 0) in Part (over new old) (each * i) new-entry × (each * i + length new-entry ≤ length (over new old)))
+  entry-part i h =
       let room : each * i + each ≤ each * count = rw (← mul-suc each i) (mul-le-mul-left each h) in (
-        rw (e, q) (over-part new old (each * i) (entry (getD ps i 0)) (rw (l .even (getD ps i 0), l .long) room) (rw (l .even (getD ps i 0)) (l .parts i h))),
-        rw (length-over new old (rw (l .long) fits), l .even x, e) (omega arith),
+        over-part new old (each * i) (entry (getD ps i 0)) (rw (l .even (getD ps i 0), l .long) room) (rw (l .even (getD ps i 0)) (l .parts i h)),
+        rw (length-over new old (rw (l .long) fits), l .even (getD ps i 0)) (omega arith),
       )
 
   -- each run writes one position more
-  pub laid-more : {from i near far x y : ℕ} {room : List ℕ} → Laid (over new old) each count from i room → from + i < count → near ≡ each * i → far ≡ each * (from + i)
-      → x ≡ getD ps i 0 → y ≡ getD ps (from + i) 0 → Laid (over new old) each count from (i + 1) (sets (sets room near (entry x)) far (entry y))
-  laid-more {from} {i} {near} {far} {x} {y} {room} p h n f a b =
-      let one = entry-part i (omega arith) n a in
-      let other = entry-part (from + i) h f b in
-      let now : Placed (over new old) near (each * from) far (each * count) room = rw (n, f) (p .placed) in
-      let near′ : each * (i + 1) ≡ near + length (entry x) = rw (l .even x, n, add-one, mul-suc) in
-      let far′ : each * (from + (i + 1)) ≡ far + length (entry y) = rw (l .even y, f, add-one, add-suc, mul-suc) in
-      record { placed = placed-more now (entry x) (entry y) (one .0) (other .0) (one .1) (other .1) near′ far′ }
+  pub laid-more : {from i : ℕ} {room now : List ℕ} → Laid (over new old) each count from i room → from + i < count
+      → now ≡ sets (sets room (each * i) (entry (getD ps i 0))) (each * (from + i)) (entry (getD ps (from + i) 0))
+      → Laid (over new old) each count from (i + 1) now
+  laid-more {from} {i} p h e =
+      let one = entry-part i (omega arith) in
+      let other = entry-part (from + i) h in
+      let near : each * (i + 1) ≡ each * i + length (entry (getD ps i 0)) = rw (l .even (getD ps i 0), add-one, mul-suc) in
+      let far : each * (from + (i + 1)) ≡ each * (from + i) + length (entry (getD ps (from + i) 0)) = rw (l .even (getD ps (from + i) 0), add-one, add-suc, mul-suc) in
+      record { placed = rw e (placed-more (p .placed) (entry (getD ps i 0)) (entry (getD ps (from + i) 0)) (one .0) (other .0) (one .1) (other .1) near far) }
 
   -- where the runs have met, all is written
   pub laid-all : {from i : ℕ} {room : List ℕ} → Laid (over new old) each count from i room → from ≤ i → count ≤ from + i → room ≡ over new old

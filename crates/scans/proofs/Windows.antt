@@ -37,7 +37,7 @@ pub record Reached (s : Settings) (seq : List ℕ) (windows i : ℕ) (r : Runs) 
 
 module _ (s : Settings) (seq : List ℕ) (a : Readable s seq) where
   -- a window whose m-mers were read lies inside the sequence
-  minima-inside : {block at run : ℕ} {ring : List ℕ} → Minima (s .side) (s .width) (values (s .m) (s .key) (spelled seq)) block at run ring
+  pub minima-inside : {block at run : ℕ} {ring : List ℕ} → Minima (s .side) (s .width) (values (s .m) (s .key) (spelled seq)) block at run ring
       → block + at + s .k ≤ length seq
   minima-inside m = omega (arith, m .read, length-mers s seq a, a .prepared .kIs, a .prepared .wide)
 
@@ -68,11 +68,11 @@ module _ (s : Settings) (seq : List ℕ) (a : Readable s seq) where
       }
 
   -- the position of the vigemin of a window that was read
-  pub position-read : {block at : ℕ} {r : Run} {ring : List ℕ} → Read s seq block at r ring → {least : ℕ} → least ≡ min (getD ring at 0) (r .least)
-      → block + bitAnd least (s .side - 1) ≡ getD (positionsOf s seq) (block + at) 0
-  position-read {block} {at} d {least} e =
-      let place = minima-place (s .side) (s .width) (4 ^ s .m) (values (s .m) (s .key) (spelled seq)) (mers s seq a) (d .minima) in
-      rw (window-position s seq a (block + at) (block-inside d), a .prepared .placesAre least, e, place) (omega arith)
+  pub position-read : {block at run : ℕ} {ring : List ℕ} → Minima (s .side) (s .width) (values (s .m) (s .key) (spelled seq)) block at run ring
+      → {least : ℕ} → least ≡ min (getD ring at 0) run → block + bitAnd least (s .side - 1) ≡ getD (positionsOf s seq) (block + at) 0
+  position-read {block} {at} m {least} e =
+      let place = minima-place (s .side) (s .width) (4 ^ s .m) (values (s .m) (s .key) (spelled seq)) (mers s seq a) m in
+      rw (window-position s seq a (block + at) (minima-inside m), a .prepared .placesAre least, e, place) (omega arith)
 
   -- it lies in the sequence
   pub position-small : {block at : ℕ} {r : Run} {ring : List ℕ} → Read s seq block at r ring → {p : ℕ} → p ≡ getD (positionsOf s seq) (block + at) 0 → p < 65536
@@ -80,6 +80,14 @@ module _ (s : Settings) (seq : List ℕ) (a : Readable s seq) where
       let k : block + at + s .k ≤ length (spelled seq) = rw length-map (block-inside d) in
       let inside = scan-inside (keyed (wordOf (s .m) (s .key))) (s .k) (s .m) (spelled seq) (block + at) (omega (arith, a .prepared .kIs, a .prepared .wide)) k in
       omega (arith, inside .1, block-inside d, a .short, a .prepared .mSome)
+
+  -- a position for the window of each run is that of window i, and of the one so far behind it
+  pub both-positions : {r : Runs} {from i : ℕ} {left right : List ℕ} → ReadBoth s seq from r left right → r .block + r .at ≡ i → {p q : ℕ}
+      → Positioned s (r .block) (r .at) (r .left .least) left p → Positioned s (r .block + from) (r .at) (r .right .least) right q
+      → (p ≡ getD (positionsOf s seq) i 0) × (q ≡ getD (positionsOf s seq) (from + i) 0)
+  both-positions {r} {from} {i} d e one other =
+      let far : r .block + from + r .at ≡ from + i = omega arith in
+      (rw e at (one seq a (d .one .minima)), rw far at (other seq a (d .other .minima)))
 
   -- the next window is read
   pub step-read : {at place : ℕ} {r : Run} {ring : List ℕ} → at < s .width → place < length seq → {word : ℕ} → Rolled s (r .word) (getD seq place 0) word
@@ -182,10 +190,3 @@ module _ {s : Settings} {seq : List ℕ} {windows each : ℕ} {room : List ℕ} 
     pub reached-next : (i + 1 ≡ (windows + 1) / 2 → ⊥) → {t : Runs} {newLeft newRight : List ℕ} → ReadBoth s seq (behind windows) t newLeft newRight
         → t .block + t .at ≡ suc (r .block + r .at) → Reached s seq windows (i + 1) t newLeft newRight
     reached-next l d e = record { within = omega (arith, h .within, l); read = d; last = omega (arith, h .last) }
-
-    -- a position for the window of each run is that of window i, and of the one so far behind it
-    pub reached-positions : {p q : ℕ} → Positioned s (r .block) (r .at) (r .left) left p → Positioned s (r .block + behind windows) (r .at) (r .right) right q
-        → (p ≡ getD (positionsOf s seq) i 0) × (q ≡ getD (positionsOf s seq) (behind windows + i) 0)
-    reached-positions one other =
-        let far : r .block + behind windows + r .at ≡ behind windows + i = omega (arith, h .last) in
-        (rw (h .last) at (one seq (w .readable) (h .read .one)), rw far at (other seq (w .readable) (h .read .other)))

@@ -6,6 +6,7 @@ use mathlib.Core.List.{List}
 use mathlib.Core.Path.{_≡_}
 use lib.Bits.{bitAnd, bitXor}
 use lib.ListN.{length, getD, take, drop}
+use lib.Seq.{sets}
 use Rattle.definitions.specs.Lists.{all}
 use Rattle.definitions.specs.Words.{capitals, letterOf, isLetter, spelled, word as wordOf}
 use Rattle.definitions.specs.Vigemins.{keyed, scan}
@@ -155,15 +156,30 @@ pub record Steppable (s : Settings) (table : List ℕ) (at : ℕ) (r : Run) (seq
 abbrev pub Stepped : Settings → ℕ → Run → List ℕ → ℕ → List ℕ → Run → List ℕ → Type 0
 Stepped s at r seq place ring t new = (block : ℕ) → place ≡ block + at + s .k → Read s seq block at r ring → Read s seq block (at + 1) t new
 
--- a run that has read a window of some sequence
-pub record Known (s : Settings) (block at : ℕ) (r : Run) (ring : List ℕ) : Type 0 where
+-- a window of some sequence was read
+pub record Known (s : Settings) (block at least : ℕ) (ring : List ℕ) : Type 0 where
   pub seq : List ℕ
   pub readable : Readable s seq
-  pub read : Read s seq block at r ring
+  pub minima : Minima (s .side) (s .width) (values (s .m) (s .key) (spelled seq)) block at least ring
 
 -- the position of the vigemin of the window read, whatever the sequence
-abbrev pub Positioned : Settings → ℕ → ℕ → Run → List ℕ → ℕ → Type 0
-Positioned s block at r ring p = (seq : List ℕ) → Readable s seq → Read s seq block at r ring → p ≡ getD (positionsOf s seq) (block + at) 0
+abbrev pub Positioned : Settings → ℕ → ℕ → ℕ → List ℕ → ℕ → Type 0
+Positioned s block at least ring p =
+    (seq : List ℕ) → Readable s seq → Minima (s .side) (s .width) (values (s .m) (s .key) (spelled seq)) block at least ring → p ≡ getD (positionsOf s seq) (block + at) 0
+
+-- each run has read its window i, of some sequence, and there is room for so many entries for each
+pub record Puttable (s : Settings) (r : Runs) (from i : ℕ) (left right : List ℕ) (each : ℕ) (room : List ℕ) : Type 0 where
+  pub seq : List ℕ
+  pub readable : Readable s seq
+  pub read : ReadBoth s seq from r left right
+  pub last : r .block + r .at ≡ i
+  pub fits : each * (from + i) + each ≤ length room
+
+-- the entries for the positions of both windows were written, whatever the sequence
+abbrev pub PutBoth : Settings → Runs → ℕ → ℕ → List ℕ → List ℕ → ℕ → (ℕ → List ℕ) → List ℕ → List ℕ → Type 0
+PutBoth s r from i left right each entry room new =
+    (seq : List ℕ) → Readable s seq → ReadBoth s seq from r left right
+    → new ≡ sets (sets room (each * i) (entry (getD (positionsOf s seq) i 0))) (each * (from + i)) (entry (getD (positionsOf s seq) (from + i) 0))
 
 -- a sequence with some windows, and room for so many entries for each
 pub record Writable (s : Settings) (seq : List ℕ) (windows each : ℕ) (room : List ℕ) : Type 0 where

@@ -1,5 +1,6 @@
 // Scans: for each window of a sequence the position of its vigemin in the whole sequence, written as positions or as bytes. Assumes nothing.
 ghost use mathlib.Core.Bool.{true};
+ghost use mathlib.Core.List.{[], _∷_};
 ghost use mathlib.Core.Path.{_≡_};
 ghost use Prim.Native.Nat.{suc, _+_, _-_, _*_, _≤_, _<_};
 ghost use lib.ListN.{length, drop};
@@ -10,7 +11,7 @@ ghost use Rattle.definitions.specs.Outcomes.{scanOutcome, asBytes, scanBytesOut
 ghost use Rattle.laws.specs.Accepted.{OrderAccepted};
 ghost use Rattle.laws.specs.Rolls.{rolled, values};
 ghost use Rattle.scans.specs.Answers.{scanned};
-ghost use Rattle.scans.specs.Readings.{Entries, Suffixes, Prepared, SetTo, keyedWord, brings, Tabled, Rolls, Readable, Filled, Begun, Beginnable, ReadBoth, Turnable, Turned, Steppable, Stepped, Known, Positioned, Writable, positionsOf};
+ghost use Rattle.scans.specs.Readings.{Entries, Suffixes, Prepared, SetTo, keyedWord, brings, Tabled, Rolls, Readable, Filled, Begun, Beginnable, ReadBoth, Turnable, Turned, Steppable, Stepped, Known, Positioned, Puttable, PutBoth, Writable, positionsOf};
 
 // The largest number of 64 bits: no stamp is above it.
 const TOP: u64 = 18446744073709551615;
@@ -216,12 +217,12 @@ fn step(
 }
 
 // The position of the vigemin of the window read last: the lesser of what is left of the block and what was read after it has its place.
-fn position(s: Settings, block: u64, at: u64, r: Run, ring: &[u64; 32]) -> u64
-    requires { ⌜ Known s block at r (now ring) ⌝ }
-    ensures { λ p. ⌜ Positioned s block at r (now (ring .entry)) p ⌝ }
+fn position(s: Settings, block: u64, at: u64, least: u64, ring: &[u64; 32]) -> u64
+    requires { ⌜ Known s block at least (now ring) ⌝ }
+    ensures { λ p. ⌜ Positioned s block at least (now (ring .entry)) p ⌝ }
 {
-    let least = powers::lesser(ring[at as usize], r.least);
-    block + (least & (s.side - 1))
+    let lowest = powers::lesser(ring[at as usize], least);
+    block + (lowest & (s.side - 1))
 }
 
 // Reads the window after the last one of each run; the left one ends in the letter at a place.
@@ -256,6 +257,25 @@ fn next_windows(
     }
 }
 
+// Writes the positions for the window i of each run.
+fn set_both(
+    s: Settings,
+    r: Runs,
+    from: u64,
+    i: u64,
+    left: &[u64; 32],
+    right: &[u64; 32],
+    room: &mut [u32],
+)
+    requires { ⌜ Puttable s r from i (now left) (now right) 1 (now room) ⌝ }
+    ensures { λ _. ⌜ PutBoth s r from i (now (left .entry)) (now (right .entry)) 1 (λ p. p ∷ []) (now (room .entry)) (now (room .exit)) ⌝ }
+{
+    room[i as usize] = position(s, r.block, r.at, r.left.least, left) as u32;
+    let block = r.block + from;
+    let place = from + i;
+    room[place as usize] = position(s, block, r.at, r.right.least, right) as u32;
+}
+
 // Writes the position for each window at the front of the room. Where the number of windows is odd, the runs share the one in the middle.
 fn write_positions(s: Settings, seq: &[u8], windows: u64, room: &mut [u32])
     requires { ⌜ Writable s (now seq) windows 1 (now room) ⌝ }
@@ -270,12 +290,7 @@ fn write_positions(s: Settings, seq: &[u8], windows: u64, room: &mut [u32])
     let mut r = begin(s, &table, seq, from, &mut left, &mut right);
     let mut i: u64 = 0;
     loop {
-        let near = r.left;
-        room[i as usize] = position(s, r.block, r.at, near, &left) as u32;
-        let far = r.right;
-        let to = from + i;
-        let behind = r.block + from;
-        room[to as usize] = position(s, behind, r.at, far, &right) as u32;
+        set_both(s, r, from, i, &left, &right, room);
         i += 1;
         if i == half {
             return;
@@ -320,8 +335,36 @@ fn put(position: u64, place: usize, room: &mut [u8])
     room[place + 3] = (position % 256) as u8;
 }
 
-// Writes the position for each window at the front of the room, as bytes. A ring is read between the two: the compiler then makes one store of the
-// four bytes of each, and else eight stores of a byte.
+// Writes the positions for the window i of each run, as bytes. A ring is read between the two: the compiler then makes one store of the four bytes of
+// each, and else eight stores of a byte.
+fn put_both(
+    s: Settings,
+    r: Runs,
+    from: u64,
+    i: u64,
+    left: &[u64; 32],
+    right: &[u64; 32],
+    room: &mut [u8],
+)
+    requires { ⌜ Puttable s r from i (now left) (now right) 4 (now room) ⌝ }
+    ensures { λ _. ⌜ PutBoth s r from i (now (left .entry)) (now (right .entry)) 4 (bytes 4) (now (room .entry)) (now (room .exit)) ⌝ }
+{
+    let to = 4 * i;
+    put(
+        position(s, r.block, r.at, r.left.least, left),
+        to as usize,
+        room,
+    );
+    let block = r.block + from;
+    let place = 4 * (from + i);
+    put(
+        position(s, block, r.at, r.right.least, right),
+        place as usize,
+        room,
+    );
+}
+
+// Writes the position for each window at the front of the room, as bytes.
 fn write_bytes(s: Settings, seq: &[u8], windows: u64, room: &mut [u8])
     requires { ⌜ Writable s (now seq) windows 4 (now room) ⌝ }
     ensures { λ _. ⌜ now (room .exit) ≡ over (asBytes (positionsOf s (now (seq .entry)))) (now (room .entry)) ⌝ }
@@ -335,17 +378,7 @@ fn write_bytes(s: Settings, seq: &[u8], windows: u64, room: &mut [u8])
     let mut r = begin(s, &table, seq, from, &mut left, &mut right);
     let mut i: u64 = 0;
     loop {
-        let near = r.left;
-        let to = 4 * i;
-        put(position(s, r.block, r.at, near, &left), to as usize, room);
-        let far = r.right;
-        let behind = r.block + from;
-        let beyond = 4 * from + to;
-        put(
-            position(s, behind, r.at, far, &right),
-            beyond as usize,
-            room,
-        );
+        put_both(s, r, from, i, &left, &right, room);
         i += 1;
         if i == half {
             return;

@@ -4,7 +4,7 @@ use Prim.Native.Nat.{_-_}
 use native.Mathlib.Omega.{arith}
 use borrow.Author.Needs.{needs}
 use lib.Bits.{and-le-r}
-use Rattle.scans.proofs.Windows.{block-inside, position-read}
+use Rattle.scans.proofs.Windows.{minima-inside, position-read}
 use Rattle.scans.proofs.position.Statement.{statement}
 use Rattle.scans.proofs.position.Tie as tie
 
@@ -24,7 +24,7 @@ add-result : tie.Need-add-result
 add-result c =
     let start = c .before .before .before in
     let a = start .pre .readable in
-    omega (arith, block-inside (start .args .s) (start .pre .seq) a (start .pre .read), a .short, a .prepared .sideFew, and-le-r (c .before .lesser .result) (start .args .s .side - 1))
+    omega (arith, minima-inside (start .args .s) (start .pre .seq) a (start .pre .minima), a .short, a .prepared .sideFew, and-le-r (c .before .lesser .result) (start .args .s .side - 1))
 
 returns : tie.Need-returns
 returns c = λ seq a d. position-read (c .before .before .before .args .s) seq a d (c .before .lesser .ensures)

@@ -1,23 +1,21 @@
--- `scans::write_bytes` meets its contract. The loop's invariant: each run has read its window i and written the positions for those before it.
+-- `scans::write_bytes` meets its contract. The loop's invariant: each run has read its window i and written the bytes for those before it.
 -- The measure is how many windows are left.
 -- Assumes nothing.
-use Prim.Native.Nat.{_+_, _-_, _*_}
-use mathlib.Core.Path.{_≡_, refl, _∙_}
+use Prim.Native.Nat.{_-_}
+use mathlib.Core.Path.{refl, _∙_}
 use native.Mathlib.Omega.{arith}
-use lib.ListN.{length}
-use Rattle.definitions.specs.Lists.{over}
+use Rattle.definitions.specs.Words.{bytes}
 use Rattle.definitions.specs.Outcomes.{asBytes}
 use Rattle.scans.specs.Readings.{positionsOf}
-use Rattle.scans.proofs.Rooms.{Laid, bytes-laid, laid-none, laid-more, laid-all}
-use Rattle.scans.proofs.Windows.{behind, begins, Reached, length-positions, reached-first, next-place, reached-next, reached-positions}
+use Rattle.scans.proofs.Rooms.{Layout, bytes-laid}
+use Rattle.scans.proofs.Windows.{begins, length-positions, next-place}
+use Rattle.scans.proofs.Writes.{Writing, writing-first, puttable, writing-all, writing-next}
 use Rattle.scans.proofs.write_bytes.Statement.{statement}
 use Rattle.scans.proofs.write_bytes.Tie as tie
 
 abbrev Inv-loop : tie.InvT-loop
 Inv-loop s seq windows room₀ table left₀ right₀ half from r₀ i₀ room left right r i =
-    Reached s seq windows i r left right
-    × Laid (over (asBytes (positionsOf s seq)) room₀) 4 windows (behind windows) i room
-    × (length room ≡ length room₀)
+    Writing s seq windows 4 (asBytes (positionsOf s seq)) room₀ i r left right room
 
 abbrev μ-loop : tie.MeasureT-loop
 μ-loop s seq windows room₀ table left₀ right₀ half from r₀ i₀ room left right r i = windows - i
@@ -36,109 +34,49 @@ sub-from c = omega (arith, c .before .before .before .before .pre .some)
 begin-requires : tie.Need-begin-requires Inv-loop μ-loop
 begin-requires c κs = begins (c .before .before .before .before .before .before .before .pre) (c .before .before .before .set-table .ensures)
 
+-- how the entries are laid
+layout : (c : tie.Start Inv-loop μ-loop) → (let ps = positionsOf (c .args .s) (c .args .seq .now) in Layout ps (c .args .windows) 4 (bytes 4) (asBytes ps))
+layout c = bytes-laid (positionsOf (c .args .s) (c .args .seq .now)) (length-positions (c .pre))
+
 loop-holds : tie.Need-loop-holds Inv-loop μ-loop
-loop-holds c =
-    let start = c .before .before .before .before .before .before .before .before in
-    let w = start .pre in
-    let ps = positionsOf (start .args .s) (start .args .seq .now) in
-    (reached-first w (c .begin .ensures .0) (c .begin .ensures .1), laid-none (bytes-laid ps (length-positions w)) (start .args .room .now) (w .fits) (behind (start .args .windows)), refl)
+loop-holds c = writing-first (c .before .before .before .before .before .before .before .before .pre) (layout (c .before .before .before .before .before .before .before .before)) (c .begin .ensures .0) (c .begin .ensures .1)
 
-mul-to : tie.Need-mul-to Inv-loop μ-loop
-mul-to c =
-    let w = c .before .before .before .before .before .before .before .before .before .before .pre in
-    omega (arith, w .all, w .readable .short, c .before .loop .inv .0 .within)
-
-position-requires : tie.Need-position-requires Inv-loop μ-loop
-position-requires c κs =
-    let start = c .before .before .before .before .before .before .before .before .before .before .before in
-    record { seq = start .args .seq .now; readable = start .pre .readable; read = c .before .before .loop .inv .0 .read .one }
-
-put-requires : tie.Need-put-requires Inv-loop μ-loop
-put-requires c κs =
-    let at = c .before .before .before .before .loop in
-    omega (arith, c .before .before .before .before .before .before .before .before .before .before .before .before .before .pre .fits, at .inv .0 .within, at .inv .2)
-
-add-behind : tie.Need-add-behind Inv-loop μ-loop
-add-behind c =
-    let w = c .before .before .before .before .before .before .before .before .before .before .before .before .before .before .before .before .before .before .pre in
-    let at = c .before .before .before .before .before .before .before .before .before .loop in
-    omega (arith, w .all, w .readable .short, at .inv .0 .within, at .inv .0 .last)
-
-mul-beyond : tie.Need-mul-beyond Inv-loop μ-loop
-mul-beyond c =
-    let w = c .before .before .before .before .before .before .before .before .before .before .before .before .before .before .before .before .before .before .pre in
-    omega (arith, w .all, w .readable .short)
-
-add-beyond : tie.Need-add-beyond Inv-loop μ-loop
-add-beyond c =
-    let w = c .before .before .before .before .before .before .before .before .before .before .before .before .before .before .before .before .before .before .pre in
-    omega (arith, w .all, w .readable .short, c .before .before .before .before .before .before .before .before .before .loop .inv .0 .within)
-
-position-requires-2 : tie.Need-position-requires-2 Inv-loop μ-loop
-position-requires-2 c κs =
-    let start = c .before .before .before .before .before .before .before .before .before .before .before .before .before .before .before .before .before .before .before in
-    record { seq = start .args .seq .now; readable = start .pre .readable; read = c .before .before .before .before .before .before .before .before .before .before .loop .inv .0 .read .other }
-
-put-requires-2 : tie.Need-put-requires-2 Inv-loop μ-loop
-put-requires-2 c κs =
-    let at = c .before .before .before .before .before .before .before .before .before .before .before .before .loop in
-    omega (arith, c .before .before .before .before .before .before .before .before .before .before .before .before .before .before .before .before .before .before .before .before .before .pre .fits, at .inv .0 .within, at .inv .2, c .before .before .before .before .before .before .before .put .kept .1 .1 .0)
+put-both-requires : tie.Need-put-both-requires Inv-loop μ-loop
+put-both-requires c κs = puttable (c .before .before .before .before .before .before .before .before .before .before .before .before .pre) (layout (c .before .before .before .before .before .before .before .before .before .before .before .before)) (c .before .before .before .loop .inv)
 
 add-i : tie.Need-add-i Inv-loop μ-loop
 add-i c =
-    let w = c .before .before .before .before .before .before .before .before .before .before .before .before .before .before .before .before .before .before .before .before .before .before .before .before .pre in
-    omega (arith, w .all, w .readable .short, c .before .before .before .before .before .before .before .before .before .before .before .before .before .before .before .loop .inv .0 .within)
-
--- each run has written one position more
-wrote : (c : tie.After-put2 Inv-loop μ-loop)
-    → (let start = c .before .before .before .before .before .before .before .before .before .before .before .before .before .before .before .before .before .before .before .before .before .before in
-    let room = c .put2 .last .1 .1 .0 in
-    Laid (over (asBytes (positionsOf (start .args .s) (start .args .seq .now))) (start .args .room .now)) 4 (start .args .windows) (behind (start .args .windows)) (c .before .before .before .before .before .before .before .before .before .before .before .before .before .loop .i + 1) room
-    × (length room ≡ length (start .args .room .now)))
-wrote c =
-    let start = c .before .before .before .before .before .before .before .before .before .before .before .before .before .before .before .before .before .before .before .before .before .before in
-    let at = c .before .before .before .before .before .before .before .before .before .before .before .before .before .loop in
-    let w = start .pre in
-    let ps = positionsOf (start .args .s) (start .args .seq .now) in
-    let known = reached-positions w (at .inv .0) (c .before .before .before .before .before .before .before .before .before .before .position .ensures) (c .before .before .position2 .ensures) in
-    let far : 4 * behind (start .args .windows) + 4 * at .i ≡ 4 * (behind (start .args .windows) + at .i) = omega arith in (
-      rw (c .put2 .ensures, c .before .before .before .before .before .before .before .before .put .ensures)
-          (laid-more (bytes-laid ps (length-positions w)) (start .args .room .now) (w .fits) (at .inv .1) (omega (arith, at .inv .0 .within)) refl far (known .0) (known .1)),
-      c .put2 .kept .1 .1 .0 ∙ c .before .before .before .before .before .before .before .before .put .kept .1 .1 .0 ∙ at .inv .2,
-    )
+    let w = c .before .before .before .before .before .before .before .before .before .before .before .before .before .before .before .pre in
+    omega (arith, w .all, w .readable .short, c .before .before .before .before .before .before .loop .inv .reached .within)
 
 same-length : tie.Need-same-length Inv-loop μ-loop
-same-length c = wrote (c .before .before .before) .1
+same-length c = c .before .before .before .put-both .kept .1 .1 .1 .1 .1 .1 .0 ∙ c .before .before .before .before .before .before .before .loop .inv .long
 
 returns : tie.Need-returns Inv-loop μ-loop
-returns c =
-    let start = c .before .before .before .before .before .before .before .before .before .before .before .before .before .before .before .before .before .before .before .before .before .before .before .before .before in
-    let w = start .pre in
-    let ps = positionsOf (start .args .s) (start .args .seq .now) in
-    laid-all (bytes-laid ps (length-positions w)) (start .args .room .now) (w .fits) (wrote (c .before .before .before) .0) (omega arith) (omega arith)
+returns c = writing-all (c .before .before .before .before .before .before .before .before .before .before .before .before .before .before .before .before .pre) (layout (c .before .before .before .before .before .before .before .before .before .before .before .before .before .before .before .before)) (c .before .before .before .before .before .before .before .loop .inv) (c .before .before .before .put-both .ensures) (c .if1 .taken)
 
 add-place : tie.Need-add-place Inv-loop μ-loop
 add-place c =
-    let w = c .before .before .before .before .before .before .before .before .before .before .before .before .before .before .before .before .before .before .before .before .before .before .before .before .before .before .pre in
-    omega (arith, w .all, w .readable .short, w .readable .prepared .kFew, c .before .before .before .before .before .before .before .before .before .before .before .before .before .before .before .before .before .loop .inv .0 .within)
+    let w = c .before .before .before .before .before .before .before .before .before .before .before .before .before .before .before .before .before .pre in
+    omega (arith, w .all, w .readable .short, w .readable .prepared .kFew, c .before .before .before .before .before .before .before .before .loop .inv .reached .within)
 
 sub-place : tie.Need-sub-place Inv-loop μ-loop
 sub-place c = omega arith
 
 next-windows-requires : tie.Need-next-windows-requires Inv-loop μ-loop
 next-windows-requires c κs =
-    let w = c .before .before .before .before .before .before .before .before .before .before .before .before .before .before .before .before .before .before .before .before .before .before .before .before .before .before .before .before .before .pre in
-    let at = c .before .before .before .before .before .before .before .before .before .before .before .before .before .before .before .before .before .before .before .before .loop in
-    ((c .before .before .before .before .before .before .before .before .before .before .before .before .before .before .before .before .before .before .before .before .before .before .before .before .before .set-table .ensures, w .readable), (at .inv .0 .read, next-place w (at .inv .0) (c .before .before .before .before .if1 .left)))
+    let w = c .before .before .before .before .before .before .before .before .before .before .before .before .before .before .before .before .before .before .before .before .pre in
+    let at = c .before .before .before .before .before .before .before .before .before .before .before .loop .inv .reached in
+    ((c .before .before .before .before .before .before .before .before .before .before .before .before .before .before .before .before .set-table .ensures, w .readable), (at .read, next-place w at (c .before .before .before .before .if1 .left)))
 
 loop-less : tie.Need-loop-less Inv-loop μ-loop
-loop-less c = omega (arith, c .before .before .before .before .before .before .before .before .before .before .before .before .before .before .before .before .before .before .before .before .before .loop .inv .0 .within)
+loop-less c = omega (arith, c .before .before .before .before .before .before .before .before .before .before .before .before .loop .inv .reached .within)
 
 loop-again : tie.Need-loop-again Inv-loop μ-loop
 loop-again c =
-    let at = c .before .before .before .before .before .before .before .before .before .before .before .before .before .before .before .before .before .before .before .before .before .loop in
-    let now = wrote (c .before .before .before .before .before .before .before .before) in
-    (reached-next (c .before .before .before .before .before .before .before .before .before .before .before .before .before .before .before .before .before .before .before .before .before .before .before .before .before .before .before .before .before .before .pre) (at .inv .0) (c .before .before .before .before .before .if1 .left) (c .next-windows .ensures .0) (c .next-windows .ensures .1), now .0, now .1)
+    let put = c .before .before .before .before .before .before .before .before .put-both in
+    let next = c .next-windows .ensures in
+    writing-next (c .before .before .before .before .before .before .before .before .before .before .before .before .before .before .before .before .before .before .before .before .before .pre) (layout (c .before .before .before .before .before .before .before .before .before .before .before .before .before .before .before .before .before .before .before .before .before)) (c .before .before .before .before .before .before .before .before .before .before .before .before .loop .inv) (put .ensures) (c .before .before .before .before .before .if1 .left) (put .kept .1 .1 .1 .1 .1 .1 .0) (next .0) (next .1)
 
 pub write-bytes-spec : {M : Type 1} → statement M
 write-bytes-spec =
@@ -151,14 +89,7 @@ write-bytes-spec =
     sub-from
     begin-requires
     loop-holds
-    mul-to
-    position-requires
-    put-requires
-    add-behind
-    mul-beyond
-    add-beyond
-    position-requires-2
-    put-requires-2
+    put-both-requires
     add-i
     same-length
     returns
