@@ -3,16 +3,20 @@
 use mathlib.Core.Path.{refl}
 use native.Mathlib.Nat.{zero-add}
 use native.Mathlib.Omega.{arith}
-use borrow.Author.Needs.{needs}
 use Rattle.scans.proofs.Windows.{begun-entries, begun-read}
 use Rattle.scans.proofs.begin.Statement.{statement}
 use Rattle.scans.proofs.begin.Tie as tie
 
 fill-requires : tie.Need-fill-requires
-fill-requires c κs = search needs
+fill-requires c κs =
+    let start = c .before .before in
+    let b = start .pre .0 in
+    (record { tabled = b .tabled; readable = b .readable; inside = omega (arith, b .inside) }, start .pre .1 .0)
 
 fill-requires-2 : tie.Need-fill-requires-2
-fill-requires-2 c κs = search needs
+fill-requires-2 c κs =
+    let start = c .before .before .before .before in
+    (start .pre .0, start .pre .1 .1)
 
 suffixes-requires : tie.Need-suffixes-requires
 suffixes-requires c κs =

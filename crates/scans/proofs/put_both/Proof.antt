@@ -10,7 +10,9 @@ mul-to : tie.Need-mul-to
 mul-to c = search needs
 
 position-requires : tie.Need-position-requires
-position-requires c κs = search needs
+position-requires c κs =
+    let t = c .before .pre in
+    record { seq = t .seq; readable = t .readable; minima = t .read .one .minima }
 
 put-requires : tie.Need-put-requires
 put-requires c κs = search needs
@@ -25,13 +27,15 @@ mul-place : tie.Need-mul-place
 mul-place c = search needs
 
 position-requires-2 : tie.Need-position-requires-2
-position-requires-2 c κs = search needs
+position-requires-2 c κs =
+    let t = c .before .before .before .before .before .before .before .pre in
+    record { seq = t .seq; readable = t .readable; minima = t .read .other .minima }
 
 put-requires-2 : tie.Need-put-requires-2
 put-requires-2 c κs = search needs
 
 same-length : tie.Need-same-length
-same-length c = search needs
+same-length c = c .before .before .put2 .kept .1 .1 .0 ∙ c .before .before .before .before .before .before .before .before .put .kept .1 .1 .0
 
 returns : tie.Need-returns
 returns c =

@@ -10,7 +10,9 @@ use Rattle.scans.proofs.set_both.Statement.{statement}
 use Rattle.scans.proofs.set_both.Tie as tie
 
 position-requires : tie.Need-position-requires
-position-requires c κs = search needs
+position-requires c κs =
+    let t = c .before .pre in
+    record { seq = t .seq; readable = t .readable; minima = t .read .one .minima }
 
 cast-room : tie.Need-cast-room
 cast-room c =
@@ -31,7 +33,9 @@ add-place : tie.Need-add-place
 add-place c = search needs
 
 position-requires-2 : tie.Need-position-requires-2
-position-requires-2 c κs = search needs
+position-requires-2 c κs =
+    let t = c .before .before .before .pre in
+    record { seq = t .seq; readable = t .readable; minima = t .read .other .minima }
 
 cast-room-2 : tie.Need-cast-room-2
 cast-room-2 c =

@@ -1,9 +1,8 @@
 -- `scans::turned` meets its contract: blocks that were read whole become the last ones, and otherwise nothing changes.
 -- Assumes nothing.
 use Prim.Native.Nat.{_+_}
-use mathlib.Core.Path.{_≡_}
+use mathlib.Core.Path.{_≡_, refl}
 use native.Mathlib.Omega.{arith}
-use borrow.Author.Needs.{needs}
 use Rattle.scans.proofs.Windows.{block-inside, whole-entries, turn-read}
 use Rattle.scans.proofs.turned.Statement.{statement}
 use Rattle.scans.proofs.turned.Tie as tie
@@ -34,7 +33,9 @@ returns c =
     }
 
 returns-2 : tie.Need-returns-2
-returns-2 c = search needs
+returns-2 c =
+    let t = c .before .before .before .pre in
+    record { read = λ seq from a d. d; inside = omega (arith, t .read .one .minima .within, c .if1 .left); same = refl }
 
 pub turned-spec : {M : Type 1} → statement M
 turned-spec = tie.close (tie.spec suffixes-requires add-block returns returns-2)
