@@ -219,14 +219,14 @@ fn column(
     m: u64,
     rows: u64,
     side: Side,
-    mut ways: [u64; 64],
+    ways: &mut [u64; 64],
     powers: &[u64; 32],
     next: &[u8; 128],
     ban: &[u8; 128],
 ) -> [u64; 31]
-    requires { ⌜ Countable m rows (side .start) (side .follow) (side .live) ways (now next) (now ban) ⌝ }
+    requires { ⌜ Countable m rows (side .start) (side .follow) (side .live) (now ways) (now next) (now ban) ⌝ }
     requires { ⌜ PowersAre (now powers) ⌝ }
-    ensures { λ r. ⌜ CountedBy m rows (side .start) (side .follow) (side .live) ways (now (next .entry)) (now (ban .entry)) r ⌝ }
+    ensures { λ r. ⌜ CountedBy m rows (side .start) (side .follow) (side .live) (now (ways .entry)) (now (next .entry)) (now (ban .entry)) r ⌝ }
 {
     let mut column: [u64; 31] = [0; 31];
     column[0] = ways[side.start as usize];
@@ -238,7 +238,7 @@ fn column(
         if left <= m {
             allowed = allowed_letters(left, next, ban);
         }
-        column[r as usize] = next_row(m, rows, done, side, powers, &allowed, &mut ways);
+        column[r as usize] = next_row(m, rows, done, side, powers, &allowed, ways);
         done = r;
     }
     column
@@ -260,13 +260,13 @@ fn antemers(
     ensures { λ r. ⌜ All (λ ρ w. StatesOf ρ w m (now (own .entry)) (now (marks .entry)) (now (next .entry)) (now (ban .entry))) (λ ρ w. AntemersAre ρ w k m r) ⌝ }
 {
     let live = reach(m, own, ban);
-    let first = ends(m, live, own, marks, next);
+    let mut first = ends(m, live, own, marks, next);
     let side = Side {
         start: 0,
         follow: m,
         live,
     };
-    column(m, k - m, side, first, powers, next, ban)
+    column(m, k - m, side, &mut first, powers, next, ban)
 }
 
 // The column of the postmers. They are counted from state m, with nothing to follow, in the rows in which w itself is allowed.
@@ -293,7 +293,7 @@ fn postmers(
         follow: 0,
         live,
     };
-    column(m, rows, side, first, powers, next, ban)
+    column(m, rows, side, &mut first, powers, next, ban)
 }
 
 // The two columns of a worksheet.

@@ -22,26 +22,26 @@ sub-column c = c .before .before .pre .1 .0 .0
 
 column-requires : tie.Need-column-requires
 column-requires c κs =
-    let start = c .before .before in
+    let start = c .before .before .before in
     let known = start .pre .0 in
     let s = known .2 in (
       (
-        liveWays (known .0) (known .1) (c .before .reach .result),
+        liveWays (known .0) (known .1) (c .before .before .reach .result),
         antemer-side (states-moves s) (start .args .k) (start .pre .1 .0 .0) (start .pre .1 .0 .1)
-            (c .before .reach .ensures (known .0) (known .1) (states-bans s)) (c .ends .ensures (known .0) (known .1) (states-nexts s)),
+            (c .before .before .reach .ensures (known .0) (known .1) (states-bans s)) (c .before .ends .ensures (known .0) (known .1) (states-nexts s)),
       ),
       start .pre .1 .1,
     )
 
 returns : tie.Need-returns
 returns c = λ ρ w s.
-    let start = c .before .before .before in
+    let start = c .before .before .before .before in
     let k = start .args .k in
     let fits = start .pre .1 .0 .0 in
     let few = start .pre .1 .0 .1 in
-    let reached = c .before .before .reach .ensures ρ w (states-bans s) in
+    let reached = c .before .before .before .reach .ensures ρ w (states-bans s) in
     antemer-column (states-moves s) k fits few reached
-    (c .column .ensures (liveWays ρ w (c .before .before .reach .result)) (antemer-side (states-moves s) k fits few reached (c .before .ends .ensures ρ w (states-nexts s))))
+    (c .column .ensures (liveWays ρ w (c .before .before .before .reach .result)) (antemer-side (states-moves s) k fits few reached (c .before .before .ends .ensures ρ w (states-nexts s))))
 
 pub antemers-spec : {M : Type 1} → statement M
 antemers-spec =

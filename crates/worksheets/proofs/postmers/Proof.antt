@@ -33,26 +33,26 @@ free-row-requires c κs = search needs
 
 column-requires : tie.Need-column-requires
 column-requires c κs =
-    let start = c .before .before .before .before in
+    let start = c .before .before .before .before .before in
     let known = start .pre .0 in (
       (
         postmerWays (known .0) (known .1),
-        postmer-side (known .2) (start .args .k) (start .pre .1 .0 .0) (start .pre .1 .0 .1) (c .before .before .lesser .ensures)
-            (c .before .before .before .lasts .ensures (known .0) (known .1) (moves-bans (known .2))) (upTo-written (c .free-row .ensures)),
+        postmer-side (known .2) (start .args .k) (start .pre .1 .0 .0) (start .pre .1 .0 .1) (c .before .before .before .lesser .ensures)
+            (c .before .before .before .before .lasts .ensures (known .0) (known .1) (moves-bans (known .2))) (upTo-written (c .before .free-row .ensures)),
       ),
       start .pre .1 .1,
     )
 
 returns : tie.Need-returns
 returns c = λ ρ w s.
-    let start = c .before .before .before .before .before in
+    let start = c .before .before .before .before .before .before in
     let k = start .args .k in
     let fits = start .pre .1 .0 .0 in
     let few = start .pre .1 .0 .1 in
-    let rows = c .before .before .before .lesser .ensures in
-    let last = c .before .before .before .before .lasts .ensures ρ w (moves-bans s) in
+    let rows = c .before .before .before .before .lesser .ensures in
+    let last = c .before .before .before .before .before .lasts .ensures ρ w (moves-bans s) in
     postmer-column s k fits few rows last
-    (c .column .ensures (postmerWays ρ w) (postmer-side s k fits few rows last (upTo-written (c .before .free-row .ensures))))
+    (c .column .ensures (postmerWays ρ w) (postmer-side s k fits few rows last (upTo-written (c .before .before .free-row .ensures))))
 
 pub postmers-spec : {M : Type 1} → statement M
 postmers-spec =
