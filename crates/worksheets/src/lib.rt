@@ -244,14 +244,14 @@ fn column(
     column
 }
 
-// The column of the antemers. They are counted from state 0, with w to follow.
-fn antemers(
+// The column of the antemers. They are counted from state 0, with w to follow. The tables are fields of one record, and so are lent together ('s).
+fn antemers<'s>(
     k: u64,
     m: u64,
-    own: &[u8; 32],
-    marks: &[u8; 128],
-    next: &[u8; 128],
-    ban: &[u8; 128],
+    own: &'s [u8; 32],
+    marks: &'s [u8; 128],
+    next: &'s [u8; 128],
+    ban: &'s [u8; 128],
     powers: &[u64; 32],
 ) -> [u64; 31]
     requires { ⌜ Known (λ ρ w. StatesOf ρ w m (now own) (now marks) (now next) (now ban)) ⌝ }
@@ -270,12 +270,12 @@ fn antemers(
 }
 
 // The column of the postmers. They are counted from state m, with nothing to follow, in the rows in which w itself is allowed.
-fn postmers(
+fn postmers<'s>(
     k: u64,
     m: u64,
-    own: &[u8; 32],
-    next: &[u8; 128],
-    ban: &[u8; 128],
+    own: &'s [u8; 32],
+    next: &'s [u8; 128],
+    ban: &'s [u8; 128],
     powers: &[u64; 32],
 ) -> [u64; 31]
     requires { ⌜ Known (λ ρ w. MovesOf ρ w m (now own) (now next) (now ban)) ⌝ }
@@ -308,13 +308,9 @@ fn sheet_of(k: u64, m: u64, s: states::States) -> Sheet
     requires { ⌜ (m ≤ k) × (k ≤ 31) ⌝ }
     ensures { λ r. ⌜ All (λ ρ w. StatesOf ρ w m (s .own) (s .marks) (s .next) (s .ban)) (λ ρ w. SheetIs ρ w k m (r .antemers) (r .postmers)) ⌝ }
 {
-    let own = s.own;
-    let marks = s.marks;
-    let next = s.next;
-    let ban = s.ban;
     let powers = powers::powers();
-    let antemers = antemers(k, m, &own, &marks, &next, &ban, &powers);
-    let postmers = postmers(k, m, &own, &next, &ban, &powers);
+    let antemers = antemers(k, m, &s.own, &s.marks, &s.next, &s.ban, &powers);
+    let postmers = postmers(k, m, &s.own, &s.next, &s.ban, &powers);
     Sheet { antemers, postmers }
 }
 

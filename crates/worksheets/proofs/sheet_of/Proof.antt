@@ -11,17 +11,17 @@ powers-requires c κs = search needs
 
 antemers-requires : tie.Need-antemers-requires
 antemers-requires c κs =
-    let start = c .before .before .before .before .before .before .before .before .before .before in
-    (start .pre .0, (start .pre .1, powers-are (c .before .before .before .before .before .powers .ensures)))
+    let start = c .before .before .before .before .before .before .before in
+    (start .pre .0, (start .pre .1, powers-are (c .before .before .before .before .before .before .powers .ensures)))
 
 postmers-requires : tie.Need-postmers-requires
 postmers-requires c κs =
-    let start = c .before .before .before .before .before .before .before .before .before .before .before .before .before .before .before in
+    let start = c .before .before .before .before .before .before .before .before .before .before .before .before .before in
     let known = start .pre .0 in
-    ((known .0, known .1, states-moves (known .2)), (start .pre .1, powers-are (c .before .before .before .before .before .before .before .before .before .before .powers .ensures)))
+    ((known .0, known .1, states-moves (known .2)), (start .pre .1, powers-are (c .before .before .before .before .before .before .before .before .before .before .before .before .powers .ensures)))
 
 returns : tie.Need-returns
-returns c = λ ρ w s. record { antemers-are = c .before .before .before .before .before .antemers .ensures ρ w s; postmers-are = c .postmers .ensures ρ w (states-moves s) }
+returns c = λ ρ w s. record { antemers-are = c .before .before .before .before .before .before .antemers .ensures ρ w s; postmers-are = c .postmers .ensures ρ w (states-moves s) }
 
 pub sheet-of-spec : {M : Type 1} → statement M
 sheet-of-spec = tie.close (tie.spec powers-requires antemers-requires postmers-requires returns)
