@@ -17,9 +17,14 @@ use Rattle.laws.specs.States.{first, next, longest-le}
 use Rattle.laws.specs.Falls.{fall, fallen, fall-le, fall-by-next}
 use Rattle.laws.specs.Bans.{never, ban, lowBy}
 use Rattle.states.specs.Grids.{grid, length-grid, grid-row, grid-at}
-use Rattle.states.specs.Tables.{rowOf, linkedRow, markAt, nextAt, banAt, own-at, own-lt, AlphabetsOf, LinksOf}
+use Rattle.states.specs.Tables.{rowOf, linkedRow, markAt, nextAt, banAt, own-at, own-lt, AlphabetsOf, Unlinked, LinksOf}
 use Rattle.states.proofs.Rows.{written, written-all, write-row}
 use Rattle.states.proofs.Marks.{at-fall, next-by-mark, ban-by-mark}
+
+-- the special alphabets of a word, where the tables are as they were
+pub alphabets-kept : {ρ : Ranking} {w : Word} {m : ℕ} {own marks own₀ marks₀ : List ℕ} → own ≡ own₀ → marks ≡ marks₀
+    → AlphabetsOf ρ w m own₀ marks₀ → AlphabetsOf ρ w m own marks
+alphabets-kept e f a = rw (e, f) a
 
 -- tables of which the rows below state i are written, and the state that state i falls to
 pub record Reached (ρ : Ranking) (w : Word) (i now : ℕ) (nexts bans : List ℕ) : Type 0 where
@@ -28,8 +33,8 @@ pub record Reached (ρ : Ranking) (w : Word) (i now : ℕ) (nexts bans : List �
   pub falls : i ≤ length w → now ≡ fall w i
 
 -- at first no row is written
-pub reached-first : (ρ : Ranking) (w : Word) → Reached ρ w 0 0 (grid (λ s b. 0)) (grid (λ s b. never))
-reached-first ρ w = record { nextRows = refl; banRows = refl; falls = λ h. refl }
+pub reached-first : (ρ : Ranking) (w : Word) {nexts bans : List ℕ} → Unlinked nexts bans → Reached ρ w 0 0 nexts bans
+reached-first ρ w u = record { nextRows = u .nexts; banRows = u .bans; falls = λ h. refl }
 
 -- past the last state the tables are whole
 pub reached-last : {ρ : Ranking} {w : Word} {i now : ℕ} {nexts bans : List ℕ} → Reached ρ w i now nexts bans → length w < i → LinksOf ρ w nexts bans

@@ -127,6 +127,15 @@ pub record AlphabetsOf (ρ : Ranking) (w : Word) (m : ℕ) (own marks : List ℕ
   pub one : OneToOne ρ
   pub ranks : marks ≡ grid (markAt ρ w)
 
+-- before the states are linked, every letter leads to state 0 and none is banned
+pub record Unlinked (next ban : List ℕ) : Type 0 where
+  pub nexts : next ≡ grid (λ s b. 0)
+  pub bans : ban ≡ grid (λ s b. never)
+
+-- such tables
+pub unlinked-first : Unlinked (grid (λ s b. 0)) (grid (λ s b. never))
+unlinked-first = record { nexts = refl; bans = refl }
+
 -- the next states and the bans
 pub record LinksOf (ρ : Ranking) (w : Word) (next ban : List ℕ) : Type 0 where
   pub nexts : next ≡ grid (nextAt w)

@@ -17,7 +17,7 @@ ghost use lib.ListN.{length};
 ghost use lib.Seq.{sets};
 ghost use Rattle.definitions.specs.Words.{word as wordOf};
 ghost use Rattle.laws.specs.Orders.{keyRanking};
-ghost use Rattle.states.specs.Tables.{rowOf, entryBy, linkedRow, Linking, Known, All, AlphabetsOf, LinksOf};
+ghost use Rattle.states.specs.Tables.{rowOf, entryBy, linkedRow, Linking, Known, All, AlphabetsOf, Unlinked, LinksOf};
 ghost use Rattle.states.specs.Answers.{fourOf, prepareOutcome, prepared};
 
 // More letters than are ever left.
@@ -57,36 +57,43 @@ fn put(row: Four, state: u64, table: &mut [u8; 128])
     table[at + 3] = row.t;
 }
 
-// The special alphabets of a word: w's own letter at each place, and how each letter ranks beside it.
-struct Alphabets {
-    own: [u8; 32],
-    marks: [u8; 128],
+// The states of a word: the special alphabets, the next states and the bans.
+pub struct States {
+    pub own: [u8; 32],
+    pub marks: [u8; 128],
+    pub next: [u8; 128],
+    pub ban: [u8; 128],
 }
 
-// The special alphabets under a key, where the rank of a letter is its sum with the key's letter. What comes after reads no key.
-fn special_alphabets(m: u64, key: u64, word: u64) -> Alphabets
+// The special alphabets under a key, where the rank of a letter is its sum with the key's letter. What comes after reads no key. The states are
+// not linked yet: every letter leads to state 0, and none is banned.
+fn special_alphabets(m: u64, key: u64, word: u64) -> States
     requires { ⌜ (0 < m) × (m ≤ 31) ⌝ }
-    ensures { λ r. ⌜ AlphabetsOf (keyRanking (wordOf m key)) (wordOf m word) m (r .own) (r .marks) ⌝ }
+    ensures { λ r. ⌜ AlphabetsOf (keyRanking (wordOf m key)) (wordOf m word) m (r .own) (r .marks) × Unlinked (r .next) (r .ban) ⌝ }
 {
-    let mut own: [u8; 32] = [0; 32];
-    let mut marks: [u8; 128] = [powers::ABOVE; 128];
+    let mut s = States {
+        own: [0; 32],
+        marks: [powers::ABOVE; 128],
+        next: [0; 128],
+        ban: [NEVER; 128],
+    };
     let mut p: u64 = 0;
     while p < m {
         let shift = 2 * (m - 1 - p);
         let letter = (word >> shift) % 4;
         let key_letter = (key >> shift) % 4;
         let rank = letter ^ key_letter;
-        own[p as usize] = letter as u8;
+        s.own[p as usize] = letter as u8;
         let marked = Four {
             a: powers::sign(0 ^ key_letter, rank),
             c: powers::sign(1 ^ key_letter, rank),
             g: powers::sign(2 ^ key_letter, rank),
             t: powers::sign(3 ^ key_letter, rank),
         };
-        put(marked, p, &mut marks);
+        put(marked, p, &mut s.marks);
         p += 1;
     }
-    Alphabets { own, marks }
+    s
 }
 
 // What a table holds at a letter: `held` where the letter has the mark that is asked for, else what it holds at the state that this one falls to.
@@ -115,41 +122,25 @@ fn link(asked: u8, held: u64, marks: Four, fall: u64, i: u64, table: &mut [u8; 1
     put(here, i, table);
 }
 
-// The states of a word: the special alphabets, the next states and the bans.
-pub struct States {
-    pub own: [u8; 32],
-    pub marks: [u8; 128],
-    pub next: [u8; 128],
-    pub ban: [u8; 128],
-}
-
 // Goes through the states from 0 to m. A state's rows follow from its marks and from the rows of the state that it falls to; state 0 falls
 // to none, and finds in its own rows what they are set to at first: every letter leads to state 0, and none is banned.
-fn link_states(m: u64, alphabets: Alphabets) -> States
-    requires { ⌜ Known (λ ρ w. AlphabetsOf ρ w m (alphabets .own) (alphabets .marks)) ⌝ }
-    ensures { λ r. ⌜ (r .own ≡ alphabets .own) × (r .marks ≡ alphabets .marks) × All (λ ρ w. AlphabetsOf ρ w m (alphabets .own) (alphabets .marks)) (λ ρ w. LinksOf ρ w (r .next) (r .ban)) ⌝ }
+fn link_states(m: u64, mut s: States) -> States
+    requires { ⌜ Known (λ ρ w. AlphabetsOf ρ w m (s .own) (s .marks)) ⌝ }
+    requires { ⌜ Unlinked (s .next) (s .ban) ⌝ }
+    ensures { λ r. ⌜ (r .own ≡ s .own) × (r .marks ≡ s .marks) × All (λ ρ w. AlphabetsOf ρ w m (s .own) (s .marks)) (λ ρ w. LinksOf ρ w (r .next) (r .ban)) ⌝ }
 {
-    let own = alphabets.own;
-    let marks = alphabets.marks;
-    let mut next: [u8; 128] = [0; 128];
-    let mut ban: [u8; 128] = [NEVER; 128];
     let mut fall: u64 = 0;
     let mut i: u64 = 0;
     while i <= m {
-        let here = row(&marks, i);
-        let letter = own[i as usize] as u64;
-        let after = next[(4 * fall + letter) as usize] as u64;
-        link(powers::EQUAL, i + 1, here, fall, i, &mut next);
-        link(powers::BELOW, m - i, here, fall, i, &mut ban);
+        let here = row(&s.marks, i);
+        let letter = s.own[i as usize] as u64;
+        let after = s.next[(4 * fall + letter) as usize] as u64;
+        link(powers::EQUAL, i + 1, here, fall, i, &mut s.next);
+        link(powers::BELOW, m - i, here, fall, i, &mut s.ban);
         fall = after;
         i += 1;
     }
-    States {
-        own,
-        marks,
-        next,
-        ban,
-    }
+    s
 }
 
 // What preparing answers: the refusal, the states.
@@ -174,9 +165,9 @@ pub fn prepare(k: u64, m: u64, key: u64, word: u64) -> Prepared
             },
         };
     }
-    let alphabets = special_alphabets(m, key, word);
+    let unlinked = special_alphabets(m, key, word);
     Prepared {
         refusal: 0,
-        states: link_states(m, alphabets),
+        states: link_states(m, unlinked),
     }
 }

@@ -52,12 +52,12 @@ special-alphabets-requires c κs =
     (order .mSome, omega (arith, order .mFits, order .kFew))
 
 link-states-requires : tie.Need-link-states-requires
-link-states-requires c κs = (_, _, c .special-alphabets .ensures)
+link-states-requires c κs = let given = c .special-alphabets .ensures in ((_, _, given .0), given .1)
 
 returns-2 : tie.Need-returns-2
 unfolding prepareOutcome
 returns-2 c =
-    let a = c .before .special-alphabets .ensures in
+    let a = c .before .special-alphabets .ensures .0 in
     let l = c .link-states .ensures in
     rw (none (c .before .before), l .0, l .1) (accepted a (l .2 _ _ a))
 

@@ -1,5 +1,5 @@
--- `states::special_alphabets` meets its contract. The loop's invariant: the first p rows of both tables are written. The measure is how many
--- letters are left.
+-- `states::special_alphabets` meets its contract. The loop's invariant: the first p rows of both tables are written, and no state is linked. The
+-- measure is how many letters are left.
 -- Assumes nothing.
 use Prim.Native.Nat.{ℕ, suc, _-_, _*_, _≤_, _<_}
 use mathlib.Core.List.{List, [], _∷_, map}
@@ -15,7 +15,7 @@ use Rattle.definitions.specs.Words.{Word, letters, word as wordOf}
 use Rattle.laws.specs.Numbers.{four-pos, length-digits, digits-below, letter-cut}
 use Rattle.laws.specs.Orders.{Ranking, keyRanking, keyed-one-to-one}
 use Rattle.states.specs.Grids.{grid, length-grid}
-use Rattle.states.specs.Tables.{markOf, ownOf, markAt}
+use Rattle.states.specs.Tables.{markOf, ownOf, markAt, Unlinked, unlinked-first}
 use Rattle.states.proofs.Rows.{written, written-all, write-entry, write-row}
 use Rattle.states.proofs.special_alphabets.Statement.{statement}
 use Rattle.states.proofs.special_alphabets.Tie as tie
@@ -58,13 +58,13 @@ marks-at : (m key x p : ℕ) → p < m → {letter keyLetter a c g t : ℕ} → 
 marks-at m key x p h e q ea ec eg et = rw (ea, ec, eg, et, lt-ltb p (length (wordOf m x)) (rw length-digits h), e, q)
 
 abbrev Inv-loop : tie.InvT-loop
-Inv-loop m key word own₀ marks₀ p₀ own marks p = (p ≤ m) × Marked (keyRanking (wordOf m key)) (wordOf m word) p own marks
+Inv-loop m key word s₀ p₀ s p = (p ≤ m) × Marked (keyRanking (wordOf m key)) (wordOf m word) p (s .own) (s .marks) × Unlinked (s .next) (s .ban)
 
 abbrev μ-loop : tie.MeasureT-loop
-μ-loop m key word own₀ marks₀ p₀ own marks p = m - p
+μ-loop m key word s₀ p₀ s p = m - p
 
 loop-holds : tie.Need-loop-holds Inv-loop μ-loop
-loop-holds c = (omega arith, marked-first (keyRanking (wordOf (c .args .m) (c .args .key))) (wordOf (c .args .m) (c .args .word)))
+loop-holds c = (omega arith, marked-first (keyRanking (wordOf (c .args .m) (c .args .key))) (wordOf (c .args .m) (c .args .word)), unlinked-first)
 
 sub-shift : tie.Need-sub-shift Inv-loop μ-loop
 sub-shift c = omega arith
@@ -81,11 +81,11 @@ shr-letter c = omega (arith, c .before .before .pre .1)
 shr-key-letter : tie.Need-shr-key-letter Inv-loop μ-loop
 shr-key-letter c = omega (arith, c .before .before .pre .1)
 
-cast-own : tie.Need-cast-own Inv-loop μ-loop
-cast-own c = omega arith
+cast-s : tie.Need-cast-s Inv-loop μ-loop
+cast-s c = omega arith
 
-array-write-own : tie.Need-array-write-own Inv-loop μ-loop
-array-write-own c = omega (arith, c .before .before .pre .1)
+element-write-s : tie.Need-element-write-s Inv-loop μ-loop
+element-write-s c = omega (arith, c .before .before .pre .1)
 
 sign-requires : tie.Need-sign-requires Inv-loop μ-loop
 sign-requires c κs = tt
@@ -120,26 +120,28 @@ loop-again c =
     let last = c .before .before in
     let row = marks-at m (start .args .key) (start .args .word) (at .p) (omega arith) letter keyLetter
     (last .before .before .before .sign .ensures) (last .before .before .sign2 .ensures) (last .before .sign3 .ensures) (last .sign4 .ensures) in
-    (omega arith, rw add-one (marked-more (at .inv .1) (omega (arith, start .pre .1)) letter row (c .put .ensures)))
+    (omega arith, rw add-one (marked-more (at .inv .1) (omega (arith, start .pre .1)) letter row (c .put .ensures)), at .inv .2)
 
 returns : tie.Need-returns Inv-loop μ-loop
 returns c =
     let at = c .before .loop in
     let start = c .before .before in
     let m = start .args .m in
-    let end : length (wordOf m (start .args .word)) ≤ at .p = rw length-digits (omega arith) in
-    record {
-      word =
-          record {
-            letters = digits-below four-pos m (start .args .word);
-            long = length-digits 4 m (start .args .word);
-            some = start .pre .0;
-            few = start .pre .1;
-            owns = owns-all (at .inv .1) end;
-          };
-      one = keyed-one-to-one (wordOf m (start .args .key)) (digits-below four-pos m (start .args .key));
-      ranks = ranks-all (at .inv .1) end;
-    }
+    let end : length (wordOf m (start .args .word)) ≤ at .p = rw length-digits (omega arith) in (
+      record {
+        word =
+            record {
+              letters = digits-below four-pos m (start .args .word);
+              long = length-digits 4 m (start .args .word);
+              some = start .pre .0;
+              few = start .pre .1;
+              owns = owns-all (at .inv .1) end;
+            };
+        one = keyed-one-to-one (wordOf m (start .args .key)) (digits-below four-pos m (start .args .key));
+        ranks = ranks-all (at .inv .1) end;
+      },
+      at .inv .2,
+    )
 
 pub special-alphabets-spec : {M : Type 1} → statement M
 special-alphabets-spec =
@@ -153,8 +155,8 @@ special-alphabets-spec =
     mul-shift
     shr-letter
     shr-key-letter
-    cast-own
-    array-write-own
+    cast-s
+    element-write-s
     sign-requires
     sign-requires-2
     sign-requires-3
