@@ -136,12 +136,15 @@ fn allowed_letters(left: u64, next: &[u8; 128], ban: &[u8; 128]) -> [u8; 128]
     allowed
 }
 
-// The ways on by one letter.
+// The ways on by one letter, read in the part of the ways from `done` on: where that begins is then computed once for a row.
 fn way(c: usize, done: u64, allowed: &[u8; 128], ways: &[u64; 64]) -> u64
     requires { ⌜ WayReady c done (now allowed) (now ways) ⌝ }
     ensures { λ r. ⌜ r ≡ wayOf c done (now (allowed .entry)) (now (ways .entry)) ⌝ }
 {
-    ways[(done + allowed[c] as u64) as usize]
+    let at = done as usize;
+    let all = &ways[..];
+    let from = &all[at..];
+    from[allowed[c] as usize]
 }
 
 // The ways on from a state, by any letter.
