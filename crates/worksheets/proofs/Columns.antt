@@ -26,8 +26,8 @@ module _ {W : ℕ → ℕ → ℕ} {m rows start follow live : ℕ} {first next 
   pub start-low : start < 64
   start-low = omega (arith, q .whole, q .few)
 
-  -- few letters follow
-  pub follow-low : follow < 64
+  -- few letters are left in the first row
+  pub follow-low : 1 + follow < 64
   follow-low = omega (arith, q .whole, q .few)
 
   -- the start is not far ahead
@@ -50,6 +50,10 @@ module _ {W : ℕ → ℕ → ℕ} {m rows start follow live : ℕ} {first next 
     -- few letters are left in it
     pub left-low : n + 1 + follow < 64
     left-low = omega (arith, q .whole, q .few)
+
+    -- and in the row after it
+    pub more-low : n + 1 + follow + 1 < 64
+    more-low = omega (arith, q .whole, q .few)
 
     -- the start stands in it
     pub row-start : n + 1 + start < 64
@@ -195,21 +199,20 @@ pub record Reached (W : ℕ → ℕ → ℕ) (rows start live n : ℕ) (ways col
   pub filled : Filled W rows start live n ways
   pub written : UpTo 31 (suc n) (W start) column
 
--- after n of the rows: which letters are allowed, and what is reached, whatever ways are counted
+-- after n of the rows: which letters are allowed in the next one, and what is reached, whatever ways are counted
 pub record Going (m rows start follow live : ℕ) (first next ban : List ℕ) (n : ℕ) (ways column allowed : List ℕ) : Type 0 where
   pub most : n ≤ rows
-  pub lets : AllowedBy (min (n + follow) m) next ban allowed
+  pub lets : AllowedBy (min (suc n + follow) m) next ban allowed
   pub reached : (W : ℕ → ℕ → ℕ) → Counts W m rows start follow live first next ban → Reached W rows start live n ways column
 
 module _ {m rows start follow live : ℕ} {first next ban : List ℕ} where
   -- at first the ways are those by no letter, and the first row is written
-  pub going-first : Countable m rows start follow live first next ban → {allowed : List ℕ} → AllowedBy follow next ban allowed
+  pub going-first : Countable m rows start follow live first next ban → {allowed : List ℕ} → AllowedBy (min (1 + follow) m) next ban allowed
       → Going m rows start follow live first next ban 0 first (set (tabulate (λ a. 0) 31) 0 (getD first start 0)) allowed
   going-first known a =
-      let least : min (0 + follow) m ≡ follow = omega (arith, known .1 .whole) in
       record {
         most = omega arith;
-        lets = rw least a;
+        lets = a;
         reached =
             λ W q. record {
               filled = record { long = q .begins .long; right = λ i h k. rw zero-add (q .begins .below i h); rest = λ p h. q .begins .above p (omega arith) };
@@ -219,26 +222,26 @@ module _ {m rows start follow live : ℕ} {first next ban : List ℕ} where
 
   module _ {n : ℕ} {ways column allowed : List ℕ} (g : Going m rows start follow live first next ban n ways column allowed) where
     -- the table of allowed letters is made anew
-    pub lets-anew : {made now : List ℕ} → now ≡ made → n + 1 + follow ≤ m → AllowedBy (n + 1 + follow) next ban made → AllowedBy (min (suc n + follow) m) next ban now
-    lets-anew e h a = let few : min (suc n + follow) m ≡ n + 1 + follow = omega arith in rw (e, few) a
+    pub lets-anew : {now : List ℕ} → AllowedBy (min (n + 1 + follow + 1) m) next ban now → AllowedBy (min (suc (suc n) + follow) m) next ban now
+    lets-anew a = let same : suc (suc n) + follow ≡ n + 1 + follow + 1 = omega arith in rw same a
 
     -- or kept
-    pub lets-kept : {now : List ℕ} → now ≡ allowed → m < n + 1 + follow → AllowedBy (min (suc n + follow) m) next ban now
-    lets-kept e h = let still : min (suc n + follow) m ≡ min (n + follow) m = omega arith in rw (e, still) (g .lets)
+    pub lets-kept : m ≤ n + 1 + follow → AllowedBy (min (suc (suc n) + follow) m) next ban allowed
+    lets-kept h = let still : min (suc (suc n) + follow) m ≡ min (suc n + follow) m = omega arith in rw still (g .lets)
 
-    module _ (h : n < rows) {now : List ℕ} (a : AllowedBy (min (suc n + follow) m) next ban now) where
+    module _ (h : n < rows) where
       -- the next row is to be written
-      turn-of : (W : ℕ → ℕ → ℕ) → Counts W m rows start follow live first next ban → Turn W first next ban m rows start follow live n now ways
-      turn-of W q = record { counts = q; lets = a; filled = g .reached W q .filled; more = h }
+      turn-of : (W : ℕ → ℕ → ℕ) → Counts W m rows start follow live first next ban → Turn W first next ban m rows start follow live n allowed ways
+      turn-of W q = record { counts = q; lets = g .lets; filled = g .reached W q .filled; more = h }
 
       -- for some ways it is
-      pub going-turn : Countable m rows start follow live first next ban → TurnReady m rows start follow live n now ways
+      pub going-turn : Countable m rows start follow live first next ban → TurnReady m rows start follow live n allowed ways
       going-turn known = (known .0, first, next, ban, turn-of (known .0) (known .1))
 
       -- one row more is written
-      pub going-next : {after : List ℕ} {r : ℕ} → Turned m rows start follow live n now ways after r
+      pub going-next : {after now : List ℕ} {r : ℕ} → Turned m rows start follow live n allowed ways after r → AllowedBy (min (suc (suc n) + follow) m) next ban now
           → Going m rows start follow live first next ban (n + 1) after (set column (n + 1) r) now
-      going-next t =
+      going-next t a =
           rw add-one (record {
             most = h;
             lets = a;

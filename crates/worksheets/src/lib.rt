@@ -6,7 +6,7 @@
 // antemer stands w, so every m-mer that begins in it exists, and state m has no way on: w would stand there too soon. After a postmer
 // stands nothing, so only an m-mer for which letters are left exists, and where none can exist any more the ways are a power of four.
 ghost use mathlib.Core.Path.{_≡_};
-ghost use Prim.Native.Nat.{suc, _-_, _≤_, _<_};
+ghost use Prim.Native.Nat.{suc, _-_, _≤_, _<_, min};
 ghost use Rattle.definitions.specs.Outcomes.{worksheetOutcome};
 ghost use Rattle.laws.specs.Rooms.{Written};
 ghost use Rattle.powers.specs.Powers.{PowersAre};
@@ -121,12 +121,12 @@ fn leads_to(left: u8, ban: u8, next: u8) -> u8
     if left < ban { next } else { NOWHERE }
 }
 
-// The same for every state and letter.
-fn allowed_letters(left: u64, next: &[u8; 128], ban: &[u8; 128]) -> [u8; 128]
+// The same for every state and letter. From m letters left on the same letters are banned.
+fn allowed_letters(m: u64, left: u64, next: &[u8; 128], ban: &[u8; 128]) -> [u8; 128]
     requires { ⌜ left < 64 ⌝ }
-    ensures { λ r. ⌜ AllowedBy left (now (next .entry)) (now (ban .entry)) r ⌝ }
+    ensures { λ r. ⌜ AllowedBy (min left m) (now (next .entry)) (now (ban .entry)) r ⌝ }
 {
-    let few = left as u8;
+    let few = powers::lesser(left, m) as u8;
     let mut allowed: [u8; 128] = [NOWHERE; 128];
     let mut c: usize = 0;
     while c < 128 {
@@ -217,7 +217,7 @@ fn next_row(
 }
 
 // The column of a side, from the ways to complete each state by no letter: row r, up to the last of so many, holds the ways to complete the
-// start by r letters. From m letters left on the same letters are banned, so the table of allowed letters is made anew only up to there.
+// start by r letters. The table of allowed letters is made anew for a row where it differs from the last one.
 fn column(
     m: u64,
     rows: u64,
@@ -233,15 +233,15 @@ fn column(
 {
     let mut column: [u64; 31] = [0; 31];
     column[0] = ways[side.start as usize];
-    let mut allowed = allowed_letters(side.follow, next, ban);
+    let mut allowed = allowed_letters(m, 1 + side.follow, next, ban);
     let mut done: u64 = 0;
     while done < rows {
         let r = done + 1;
-        let left = r + side.follow;
-        if left <= m {
-            allowed = allowed_letters(left, next, ban);
-        }
         column[r as usize] = next_row(m, rows, done, side, powers, &allowed, ways);
+        let left = r + side.follow;
+        if left < m {
+            allowed = allowed_letters(m, left + 1, next, ban);
+        }
         done = r;
     }
     column

@@ -13,13 +13,16 @@ use Rattle.worksheets.proofs.allowed_letters.Statement.{statement}
 use Rattle.worksheets.proofs.allowed_letters.Tie as tie
 
 abbrev Inv-loop : tie.InvT-loop
-Inv-loop left next ban few allowed₀ c₀ allowed c = (c ≤ 128) × Written 0 c 0 (λ j. leadsTo left (getD ban j 0) (getD next j 0)) allowed₀ allowed
+Inv-loop m left next ban few allowed₀ c₀ allowed c = (c ≤ 128) × Written 0 c 0 (λ j. leadsTo few (getD ban j 0) (getD next j 0)) allowed₀ allowed
 
 abbrev μ-loop : tie.MeasureT-loop
-μ-loop left next ban few allowed₀ c₀ allowed c = 128 - c
+μ-loop m left next ban few allowed₀ c₀ allowed c = 128 - c
+
+lesser-requires : tie.Need-lesser-requires Inv-loop μ-loop
+lesser-requires c κs = tt
 
 cast-few : tie.Need-cast-few Inv-loop μ-loop
-cast-few c = omega (arith, c .pre)
+cast-few c = omega (arith, c .before .pre, c .lesser .ensures)
 
 loop-holds : tie.Need-loop-holds Inv-loop μ-loop
 loop-holds c = (omega arith, written-none 0 _)
@@ -51,7 +54,7 @@ loop-again c =
 returns : tie.Need-returns Inv-loop μ-loop
 returns c =
     let at = c .before .loop in
-    record { long = at .inv .1 .long; each = λ i h. rw zero-add at (at .inv .1 .inside i (omega arith) (omega arith)) }
+    record { long = at .inv .1 .long; each = λ i h. rw (zero-add, c .before .before .lesser .ensures) at (at .inv .1 .inside i (omega arith) (omega arith)) }
 
 pub allowed-letters-spec : {M : Type 1} → statement M
 allowed-letters-spec =
@@ -59,6 +62,7 @@ allowed-letters-spec =
     (tie.spec
     Inv-loop
     μ-loop
+    lesser-requires
     cast-few
     loop-holds
     element-copy-out-leads-to
