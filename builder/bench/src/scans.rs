@@ -101,9 +101,9 @@ pub fn tell(times: &[Times], report: &mut Report) {
         let proved = || alone(m).map(|times| times.best[0]);
         (proved().fold(0.0, f64::max) / proved().fold(f64::INFINITY, f64::min), format!("m={m}"))
     }));
-    report.ratio("scan", "block minima in the same form", Some(1.15), &worst(1, &KINDS));
-    report.ratio("scan", "block minima, the best in one run", Some(1.15), &worst(2, &KINDS));
-    report.ratio("scan", "block minima, two runs at once and a table", None, &worst(3, &KINDS));
+    report.ratio("scan", "block minima, one run", Some(1.15), &worst(1, &KINDS));
+    report.ratio("scan", "block minima, one run, tuned", Some(1.15), &worst(2, &KINDS));
+    report.ratio("scan", "block minima, two runs at once, tuned", Some(1.15), &worst(3, &KINDS));
     report.ratio("scan", "a monotone deque, random letters", Some(0.5), &worst(4, &KINDS[..1]));
     report.ratio("scan", "a monotone deque, the three kinds together", Some(0.5), &together(4));
     report.ratio("scan", "a monotone deque, all A or ACG repeated alone", Some(0.5), &worst(4, &KINDS[1..]));
