@@ -1,11 +1,13 @@
 -- `states::special_alphabets` meets its contract. The loop's invariant: the first p rows of both tables are written, and no state is linked. The
 -- measure is how many letters are left.
 -- Assumes nothing.
-use Prim.Native.Nat.{ℕ, suc, _-_, _*_, _≤_, _<_}
+use Prim.Native.Nat.{ℕ, suc, _+_, _-_, _*_, _≤_, _<_}
 use mathlib.Core.List.{List, [], _∷_, map}
 use mathlib.Core.Path.{_≡_, refl, ap, fun-ext, _∙_}
 use native.Mathlib.Numerals.{add-one}
 use native.Mathlib.Omega.{arith}
+use mir.Syntax.{w64}
+use mir.Val.{Fits}
 use borrow.Author.Tests.{lt-ltb, le-ltb}
 use lib.Bits.{bitXor}
 use lib.ListN.{length, getD, set, List·getD-eq-default}
@@ -57,35 +59,66 @@ marks-at : (m key x p : ℕ) → p < m → {letter keyLetter a c g t : ℕ} → 
     → a ∷ c ∷ g ∷ t ∷ [] ≡ map (markAt (keyRanking (wordOf m key)) (wordOf m x) p) letters
 marks-at m key x p h e q ea ec eg et = rw (ea, ec, eg, et, lt-ltb p (length (wordOf m x)) (rw length-digits h), e, q)
 
+-- what holds of the numbers at a place of w
+record Place (m p : ℕ) : Type 0 where
+  some : 1 ≤ m
+  below : p ≤ m - 1
+  whole : suc (p + (m - 1 - p)) ≡ m
+  shift : 2 * (m - 1 - p) < 64
+  fits : Fits w64 (2 * (m - 1 - p))
+  inside : p < 32
+  next : Fits w64 (p + 1)
+  more : p + 1 ≤ m
+  less : m - (p + 1) < m - p
+
+-- it holds at each of its letters
+place-of : {m p : ℕ} → p < m → m ≤ 31 → Place m p
+place-of h k =
+    record {
+      some = omega arith;
+      below = omega arith;
+      whole = omega arith;
+      shift = omega arith;
+      fits = omega arith;
+      inside = omega arith;
+      next = omega arith;
+      more = omega arith;
+      less = omega arith;
+    }
+
 abbrev Inv-loop : tie.InvT-loop
 Inv-loop m key word s₀ p₀ s p = (p ≤ m) × Marked (keyRanking (wordOf m key)) (wordOf m word) p (s .own) (s .marks) × Unlinked (s .next) (s .ban)
 
 abbrev μ-loop : tie.MeasureT-loop
 μ-loop m key word s₀ p₀ s p = m - p
 
+-- it holds in the loop
+here : (c : tie.In-loop Inv-loop μ-loop) → Place (c .before .before .args .m) (c .before .loop .p)
+here c = place-of (c .loop-test .taken) (c .before .before .pre .1)
+
 loop-holds : tie.Need-loop-holds Inv-loop μ-loop
 loop-holds c = (omega arith, marked-first (keyRanking (wordOf (c .args .m) (c .args .key))) (wordOf (c .args .m) (c .args .word)), unlinked-first)
 
 sub-shift : tie.Need-sub-shift Inv-loop μ-loop
-sub-shift c = omega arith
+sub-shift c = here c .some
 
 sub-shift-2 : tie.Need-sub-shift-2 Inv-loop μ-loop
-sub-shift-2 c = omega arith
+sub-shift-2 c = here c .below
 
 mul-shift : tie.Need-mul-shift Inv-loop μ-loop
-mul-shift c = omega (arith, c .before .before .pre .1)
+mul-shift c = here c .fits
 
 shr-letter : tie.Need-shr-letter Inv-loop μ-loop
-shr-letter c = omega (arith, c .before .before .pre .1)
+shr-letter c = here c .shift
 
 shr-key-letter : tie.Need-shr-key-letter Inv-loop μ-loop
-shr-key-letter c = omega (arith, c .before .before .pre .1)
+shr-key-letter c = here c .shift
 
 cast-s : tie.Need-cast-s Inv-loop μ-loop
 cast-s c = omega arith
 
 element-write-s : tie.Need-element-write-s Inv-loop μ-loop
-element-write-s c = omega (arith, c .before .before .pre .1)
+element-write-s c = here c .inside
 
 sign-requires : tie.Need-sign-requires Inv-loop μ-loop
 sign-requires c κs = tt
@@ -100,27 +133,26 @@ sign-requires-4 : tie.Need-sign-requires-4 Inv-loop μ-loop
 sign-requires-4 c κs = tt
 
 put-requires : tie.Need-put-requires Inv-loop μ-loop
-put-requires c κs =
-    let few = c .before .before .before .before .before .before .before .pre .1 in
-    (omega (arith, few), marks-long (c .before .before .before .before .before .before .loop .inv .1))
+put-requires c κs = (here (c .before .before .before .before .before) .inside, marks-long (c .before .before .before .before .before .before .loop .inv .1))
 
 add-p : tie.Need-add-p Inv-loop μ-loop
-add-p c = omega (arith, c .before .before .before .before .before .before .before .before .pre .1)
+add-p c = here (c .before .before .before .before .before .before) .next
 
 loop-less : tie.Need-loop-less Inv-loop μ-loop
-loop-less c = omega arith
+loop-less c = here (c .before .before .before .before .before .before) .less
 
 loop-again : tie.Need-loop-again Inv-loop μ-loop
 loop-again c =
     let start = c .before .before .before .before .before .before .before .before in
     let at = c .before .before .before .before .before .before .before .loop in
+    let place = here (c .before .before .before .before .before .before) in
     let m = start .args .m in
-    let letter = letter-cut m (start .args .word) (at .p) (m - 1 - at .p) (omega arith) in
-    let keyLetter = letter-cut m (start .args .key) (at .p) (m - 1 - at .p) (omega arith) in
+    let letter = letter-cut m (start .args .word) (at .p) (m - 1 - at .p) (place .whole) in
+    let keyLetter = letter-cut m (start .args .key) (at .p) (m - 1 - at .p) (place .whole) in
     let last = c .before .before in
-    let row = marks-at m (start .args .key) (start .args .word) (at .p) (omega arith) letter keyLetter
+    let row = marks-at m (start .args .key) (start .args .word) (at .p) (c .before .before .before .before .before .before .loop-test .taken) letter keyLetter
     (last .before .before .before .sign .ensures) (last .before .before .sign2 .ensures) (last .before .sign3 .ensures) (last .sign4 .ensures) in
-    (omega arith, rw add-one (marked-more (at .inv .1) (omega (arith, start .pre .1)) letter row (c .put .ensures)), at .inv .2)
+    (place .more, rw add-one (marked-more (at .inv .1) (place .inside) letter row (c .put .ensures)), at .inv .2)
 
 returns : tie.Need-returns Inv-loop μ-loop
 returns c =
