@@ -1,9 +1,10 @@
 //! Writes a picture (SVG) of the sizes of all shelves under two keys, side by side.
 //!
-//!     cargo run --example shelves -- [M K [KEY KEY]] > shelves.svg
+//!     cargo run --example shelves -- [K M [KEY KEY]] > shelves.svg
 //!
-//! By default m=4, k=12 and the keys AAAA and ATAT; for another m the keys are A and AT repeated. Under a key of A alone the words that come first in the
-//! alphabet have swollen shelves; under another key the words have them that come first once keyed.
+//! By default k=12, m=4 and the keys AAAA and ATAT; for another m the keys are A and AT repeated. Under a key of A
+//! alone the words that come first in the alphabet have swollen shelves; under another key the words have them that
+//! come first once keyed.
 
 use std::fmt::Write;
 use std::process::ExitCode;
@@ -26,7 +27,7 @@ fn main() -> ExitCode {
             ExitCode::SUCCESS
         }
         Err(why) => {
-            eprintln!("shelves: {why}\nusage: shelves [M K [KEY KEY]], with M from 1 to 6");
+            eprintln!("shelves: {why}\nusage: shelves [K M [KEY KEY]], with M from 1 to 6");
             ExitCode::FAILURE
         }
     }
@@ -35,10 +36,10 @@ fn main() -> ExitCode {
 /// The picture that is asked for.
 fn drawn(words: &[String]) -> Result<String, String> {
     let number = |word: &String| word.parse::<u64>().map_err(|_| format!("{word} is no number"));
-    let (m, k, keys) = match words {
-        [] => (4, 12, None),
-        [m, k] => (number(m)?, number(k)?, None),
-        [m, k, one, other] => (number(m)?, number(k)?, Some([one.clone(), other.clone()])),
+    let (k, m, keys) = match words {
+        [] => (12, 4, None),
+        [k, m] => (number(k)?, number(m)?, None),
+        [k, m, one, other] => (number(k)?, number(m)?, Some([one.clone(), other.clone()])),
         _ => return Err(String::from("two numbers, and two keys or none")),
     };
     if !(1..=6).contains(&m) {
@@ -102,7 +103,7 @@ fn picture(k: u64, m: u64, shelves: &[Shelves]) -> String {
     let mut svg = format!(
         "<svg xmlns=\"http://www.w3.org/2000/svg\" viewBox=\"0 0 {width} {height}\" width=\"{width}\" height=\"{height}\" \
          font-family=\"sans-serif\" font-size=\"12\" fill=\"#222\">\n<rect width=\"100%\" height=\"100%\" fill=\"#fff\"/>\n\
-         <text x=\"{LEFT}\" y=\"18\" font-size=\"14\">The sizes of all shelves, k={k}, m={m}: how many of the 4^{k} k-mers each word has</text>\n"
+         <text x=\"{LEFT}\" y=\"18\" font-size=\"14\">The sizes of all shelves, k={k}, m={m}: how many of the 4^{k} k-mers each word has; red, more than twice the mean</text>\n"
     );
     for (panel, shelves) in shelves.iter().enumerate() {
         let left = LEFT + panel as f64 * (WIDTH + GAP);
@@ -111,7 +112,8 @@ fn picture(k: u64, m: u64, shelves: &[Shelves]) -> String {
     svg + "</svg>\n"
 }
 
-/// One key: a bar for each word in alphabet order, those of more than twice the mean in another colour, and the words of the largest.
+/// One key: a bar for each word in alphabet order, those of more than twice the mean in another colour, and the words
+/// of the largest.
 fn draw(svg: &mut String, k: u64, m: u64, shelves: &Shelves, left: f64, most: f64) -> std::fmt::Result {
     let count = shelves.sizes.len();
     let step = WIDTH / count as f64;
@@ -140,7 +142,7 @@ fn draw(svg: &mut String, k: u64, m: u64, shelves: &Shelves, left: f64, most: f6
         let size = shelves.sizes[word];
         let at = TOP + 14.0 * line as f64;
         let label = format!("{} {}", text(m, word), grouped(size));
-        writeln!(svg, "<text x=\"{}\" y=\"{at}\" text-anchor=\"end\" fill=\"#c0392b\">{label}</text>", left + WIDTH)?;
+        writeln!(svg, "<text x=\"{}\" y=\"{at}\" text-anchor=\"end\">{label}</text>", left + WIDTH)?;
     }
     Ok(())
 }

@@ -1,4 +1,5 @@
-//! The two functions of the archive. Nothing checks these declarations against the library's source; the tests try them.
+//! The two functions of the archive. Nothing checks these declarations against the library's source; the tests try
+//! them.
 
 #![allow(unsafe_code)]
 
@@ -17,7 +18,7 @@ pub fn size(k: u64, m: u64, key: u64, word: u64) -> u64 {
 /// The number of windows, or a refusal as a number.
 #[inline]
 pub fn scan(k: u64, m: u64, key: u64, seq: &[u8], room: &mut [u8]) -> u64 {
-    // SAFETY: it takes any numbers, reads so many bytes at `seq`, and reads and writes so many at `room`: both are slices with their
-    // lengths, and as one is borrowed mutably they do not overlap. Nothing is kept after the call.
+    // SAFETY: it takes any numbers, reads so many bytes at `seq`, and reads and writes so many at `room`: both are
+    // slices with their lengths, and as one is borrowed mutably they do not overlap. Nothing is kept after the call.
     unsafe { tukinraso_scan(k, m, key, seq.as_ptr(), seq.len(), room.as_mut_ptr(), room.len()) }
 }

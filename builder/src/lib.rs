@@ -1,18 +1,19 @@
 //! The size of a shelf and the scan of a sequence, over the proved library.
 //!
-//! Letters are A=0, C=1, G=2, T=3, and a word is a whole number in base four, first letter highest: GG is 10. In a k-mer the
-//! *vigemin* is the m-letter word that is least once combined with a key, letter by letter by XOR; the leftmost of equals. The
-//! *shelf* of a word holds all k-mers of which it is the vigemin.
+//! Letters are A=0, C=1, G=2, T=3, and a word is a whole number in base four, first letter highest: GG is 10. In a
+//! k-mer the *vigemin* is the m-letter word that is least once combined with a key, letter by letter by XOR; the
+//! leftmost of equals. The *shelf* of a word holds all k-mers of which it is the vigemin.
 //!
-//! Both functions take any numbers and bytes. What they refuse is a [`Refusal`], the lowest that applies, and changes no room.
+//! Both functions take any numbers and bytes. What they refuse is a [`Refusal`], the lowest that applies, and changes
+//! no room.
 //!
 //! ```
 //! // k = 3, key AA, word GG: GGG, GGT and TGG.
 //! assert_eq!(tukinraso::size(3, 2, 0, 10), Ok(3));
 //! ```
 //!
-//! The answers are proved of the library's source. What is not proved is this side: that the two functions are declared as they
-//! are compiled. The tests of this package compare them with an independent implementation.
+//! The answers are proved of the library's source. Not proved are its compilation, and that the two functions are
+//! declared here as they are compiled: the tests of this package compare both with an independent implementation.
 
 mod foreign;
 mod refusal;
@@ -25,6 +26,10 @@ pub use refusal::Refusal;
 ///
 /// [`Refusal::K`], [`Refusal::M`], [`Refusal::Key`] and [`Refusal::Word`], the first that applies.
 ///
+/// # Panics
+///
+/// Where the archive's answer is neither a size nor a refusal: then it is another archive than this package is for.
+///
 /// # Examples
 ///
 /// ```
@@ -32,7 +37,7 @@ pub use refusal::Refusal;
 ///
 /// // k = 4, key TAA, word AAA.
 /// assert_eq!(size(4, 3, 0b11_00_00, 0), Ok(4));
-/// // Among 31 letters T stands alone under the key A, and A does not.
+/// // k = 31, key A: T is the vigemin of T...T alone, and A that of every k-mer with an A, 4^31 - 3^31 of them.
 /// assert_eq!(size(31, 1, 0, 3), Ok(1));
 /// assert_eq!(size(31, 1, 0, 0), Ok(4_611_068_345_031_103_957));
 ///
@@ -45,15 +50,20 @@ pub fn size(k: u64, m: u64, key: u64, word: u64) -> Result<u64, Refusal> {
     Refusal::told(foreign::size(k, m, key, word))
 }
 
-/// Writes for each window of k letters the position of its vigemin in the whole sequence, and answers the number of windows. A
-/// sequence shorter than k has none.
+/// Writes for each window of k letters the position of its vigemin in the whole sequence, and answers the number of
+/// windows. A sequence shorter than k has none.
 ///
-/// A position is four bytes, high first, at the front of the room; room beyond them is unchanged.
+/// A position is four bytes, high first, at the front of the room; room beyond them is unchanged. So n letters take
+/// `4 * (n - k + 1)` bytes where n is k or more, and `4 * n` are always enough.
 ///
 /// # Errors
 ///
-/// [`Refusal::K`], [`Refusal::M`], [`Refusal::Key`], [`Refusal::Sequence`], [`Refusal::Letter`] and [`Refusal::Room`], the first
-/// that applies. The room is then as it was.
+/// [`Refusal::K`], [`Refusal::M`], [`Refusal::Key`], [`Refusal::Sequence`], [`Refusal::Letter`] and
+/// [`Refusal::Room`], the first that applies. The room is then as it was.
+///
+/// # Panics
+///
+/// As [`size`] does, where it is another archive.
 ///
 /// # Examples
 ///

@@ -28,8 +28,8 @@ pub enum Refusal {
 
 /// A foreign answer from here on is a refusal.
 const MARK: u64 = 1 << 63;
-/// What a refusal's number is multiplied by; the place of a bad letter is below it.
-const NUMBER: u64 = 1 << 16;
+/// What a refusal's number is multiplied by: so many places a bad letter can have.
+const PLACES: u64 = 1 << 16;
 
 impl Refusal {
     /// The number of the refusal, from 1 to 7.
@@ -49,21 +49,31 @@ impl Refusal {
         }
     }
 
-    /// What a foreign answer tells: below 2^63 the answer itself; otherwise 2^63 plus 65,536 times the number of the refusal plus the
-    /// place of a bad letter, which is 0 for other refusals.
+    /// The place of the bad letter, where that was refused.
+    ///
+    /// ```
+    /// assert_eq!(tukinraso::scan(2, 1, 0, b"ACGN", &mut [0; 12]).unwrap_err().place(), Some(3));
+    /// assert_eq!(tukinraso::size(32, 1, 0, 0).unwrap_err().place(), None);
+    /// ```
+    pub fn place(self) -> Option<usize> {
+        if let Refusal::Letter { place } = self { Some(place) } else { None }
+    }
+
+    /// What a foreign answer tells: below 2^63 the answer itself; otherwise 2^63 plus 65,536 times the number of the
+    /// refusal plus the place of a bad letter, which is 0 for other refusals.
     ///
     /// # Panics
     ///
     /// Where it is neither: then the archive is not the one that this package is for.
     #[inline]
     pub(crate) fn told(answer: u64) -> Result<u64, Refusal> {
-        if answer < MARK { Ok(answer) } else { Err(Refusal::coded(answer)) }
+        if answer < MARK { Ok(answer) } else { Err(Refusal::decoded(answer)) }
     }
 
     /// The refusal that an answer from the mark on tells.
     #[cold]
-    fn coded(answer: u64) -> Refusal {
-        let (number, place) = ((answer - MARK) / NUMBER, (answer % NUMBER) as usize);
+    fn decoded(answer: u64) -> Refusal {
+        let (number, place) = ((answer - MARK) / PLACES, (answer % PLACES) as usize);
         match (number, place) {
             (1, 0) => Refusal::K,
             (2, 0) => Refusal::M,
@@ -87,7 +97,7 @@ impl Display for Refusal {
             Refusal::Word => write!(f, "the word is 4^m or more"),
             Refusal::Sequence => write!(f, "the sequence has more than 65,536 letters"),
             Refusal::Letter { place } => write!(f, "the byte at place {place} is not one of A, C, G, T"),
-            Refusal::Room => write!(f, "the room is smaller than four bytes for each window"),
+            Refusal::Room => write!(f, "the room has fewer than four bytes for each window"),
         }
     }
 }
@@ -116,6 +126,8 @@ mod tests {
     fn refusals_are_told_by_their_numbers() {
         for (answer, refusal) in CODED {
             assert_eq!(Refusal::told(answer), Err(refusal));
+            assert_eq!(u64::from(refusal.number()), (answer >> 16) & 0xF);
+            assert_eq!(refusal.place().unwrap_or(0) as u64, answer & 0xFFFF);
             let text = refusal.to_string();
             assert!(text.starts_with(&format!("refused {}: ", refusal.number())), "{text}");
         }
@@ -124,7 +136,7 @@ mod tests {
 
     #[test]
     fn all_below_the_mark_is_an_answer() {
-        for answer in [0, 1, 65_536, 0x0001_0000, (1 << 63) - 1] {
+        for answer in [0, 1, 65_536, 0x0006_0003, (1 << 63) - 1] {
             assert_eq!(Refusal::told(answer), Ok(answer));
         }
     }

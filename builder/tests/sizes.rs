@@ -44,7 +44,8 @@ fn sizes_that_document_01_lists() {
     assert_eq!(size(32, 1, 0, 0), Err(Refusal::K), "k 32");
 }
 
-/// Eight words and keys with many equal beginnings for each k and m, the greatest key and word, and m equal to k among them.
+/// Eight words and keys with many equal beginnings for each k and m, the greatest key and word, and m equal to k
+/// among them.
 #[test]
 fn every_k_and_every_m() {
     let mut numbers = Numbers::from_seed(SEED);
@@ -77,6 +78,7 @@ fn each_refusal() {
     }
     for m in [0, 6, 31, 32, 33, 64, 1 << 32, (1 << 32) + 2, 1 << 63, HUGE] {
         assert_eq!(size(5, m, 0, 0), Err(Refusal::M), "m {m}");
+        assert_eq!(size(5, m, HUGE, HUGE), Err(Refusal::M), "m {m}, huge key and word");
     }
     for (k, m) in every_k_and_m() {
         for number in [4u64.pow(m as u32), 4u64.pow(m as u32) + 1, 1 << 63, HUGE] {
@@ -89,11 +91,11 @@ fn each_refusal() {
 /// Where neighbours apply, and where all do, the lowest is told.
 #[test]
 fn neighbouring_refusals() {
-    for (k, m) in [(0, 0), (0, 1), (0, HUGE), (32, 0), (32, 33), (HUGE, 0), (HUGE, HUGE)] {
+    for (k, m) in [(0, 0), (0, 1), (0, HUGE), (32, 0), (32, 33), (HUGE, 0)] {
         assert_eq!(size(k, m, 0, 0), Err(Refusal::K), "1 and 2: k {k}, m {m}");
-        assert_eq!(size(k, m, HUGE, HUGE), Err(Refusal::K), "1 to 4: k {k}, m {m}");
+        assert_eq!(size(k, m, HUGE, HUGE), Err(Refusal::K), "1 and 2, huge key and word: k {k}, m {m}");
     }
-    for (m, key) in [(0, 1), (0, HUGE), (6, 4096), (6, HUGE), (32, HUGE), (HUGE, HUGE)] {
+    for (m, key) in [(0, 1), (0, HUGE), (6, 4096), (6, HUGE), (31, 1 << 62), (31, HUGE)] {
         assert_eq!(size(5, m, key, 0), Err(Refusal::M), "2 and 3: m {m}, key {key}");
         assert_eq!(size(5, m, key, HUGE), Err(Refusal::M), "2 to 4: m {m}, key {key}");
         assert_eq!(size(5, m, 0, key), Err(Refusal::M), "2 and 4: m {m}, word {key}");
@@ -110,12 +112,13 @@ const CALLS: u64 = 100_000;
 
 #[test]
 fn drawn_calls() {
+    println!("seed {SEED:#x}");
     let mut numbers = Numbers::from_seed(SEED);
     for call in 0..CALLS {
         let (k, m, key, word) = numbers.shelf();
         let any = numbers.any();
         let word = if numbers.one_in(20) { numbers.one_of(&[4u64.pow(m as u32), any, HUGE]) } else { word };
         let (k, m, key) = damaged(&mut numbers, k, m, key);
-        compare(&format!("seed {SEED:#x}, call {call}"), k, m, key, word);
+        compare(&format!("call {call}"), k, m, key, word);
     }
 }

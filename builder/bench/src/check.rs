@@ -1,5 +1,6 @@
-//! Compares what is measured with plain Rust, on drawn inputs. It ends the program where something differs. The scan and the size that ship have their
-//! tests in the package `tukinraso`; here they and their rivals must agree, and the functions of the archive for trials are tried.
+//! Compares what is measured with plain Rust, on drawn inputs. It ends the program where something differs. The scan
+//! and the size that ship have their tests in the package `tukinraso`; here they and their rivals must agree, and the
+//! functions of the archive for trials are tried.
 
 use crate::{pages, scans, sizes, trials};
 use plain::definitions::{self, Refused};
@@ -58,7 +59,8 @@ fn sizes() -> usize {
     compared
 }
 
-/// Every contender must answer these k-mers, and write them at the front of a room that is otherwise left as it was; or refuse.
+/// Every contender must answer these k-mers, and write them at the front of a room that is otherwise left as it was;
+/// or refuse.
 fn page(call: (u64, u64, u64, u64, u64), room_len: usize, expected: Result<&[u64], Refused>) -> usize {
     let (k, m, key, word, start) = call;
     let mut written = vec![UNTOUCHED; room_len];
@@ -120,8 +122,8 @@ fn drawn_pages() -> usize {
     compared
 }
 
-/// Whole shelves listed by pages of 0, 1, 2 and 7 entries, of the shelf's size and of the greatest number, into rooms that just take them, are larger, or
-/// too small by one.
+/// Whole shelves listed by pages of 0, 1, 2 and 7 entries, of the shelf's size and of the greatest number, into rooms
+/// that just take them, are larger, or too small by one.
 fn lists() -> usize {
     let mut numbers = Numbers::from_seed(0x3C79_AC49_2BA7_B653);
     let mut compared = 0;

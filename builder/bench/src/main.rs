@@ -1,5 +1,5 @@
-//! The proved library measured beside safe Rust, all in one run. Prints the tables and writes them, with the plot, into the folder that is named, as
-//! tables.md and speed.svg. What is measured is first compared with plain Rust.
+//! The proved library measured beside safe Rust, all in one run. Prints the tables and writes them, with the plot,
+//! into the folder that is named, as tables.md and speed.svg. What is measured is first compared with plain Rust.
 
 mod check;
 mod masks;

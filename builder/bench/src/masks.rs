@@ -1,6 +1,6 @@
-//! The size in safe Rust by the rules of source 000, the fastest of some ways to write them: sets of letters are bits, so that
-//! the four letters go at once; of the signs R only the j that are equal are kept, each by a link to the next; and one
-//! array, changed in place, holds a table. Where the print errs document 01 is followed.
+//! The size in safe Rust by the rules of source 000, the fastest of some ways to write them: sets of letters are
+//! bits, so that the four letters go at once; of the signs R only the j that are equal are kept, each by a link to
+//! the next; and one array, changed in place, holds a table. Where the print errs document 01 is followed.
 
 use crate::sizes::accepted;
 use plain::definitions::Refused;
@@ -24,9 +24,9 @@ const fn special_alphabets() -> [[Letters; 4]; 4] {
     above
 }
 
-/// The part of a table with some number of letters after the shared ones: place i holds how many words have i letters of
-/// w and then so many letters, and thus share at least i. All that the rule asks for an entry is in the part for one letter
-/// fewer: T−1 shorter with i−T+2 shared, or i+1 shorter. So one part is kept and goes from 0 letters on.
+/// The part of a table with some number of letters after the shared ones: place i holds how many words have i letters
+/// of w and then so many letters, and thus share at least i. All that the rule asks for an entry is in the part for
+/// one letter fewer: T−1 shorter with i−T+2 shared, or i+1 shorter. So one part is kept and goes from 0 letters on.
 type Part = [u64; 33];
 
 /// The size, each entry of both tables with its loop over j.
@@ -55,9 +55,9 @@ struct Rules {
     letter: [Letters; 32],
     /// The special alphabet Σ(i+1) at place i, which is all four letters for i = m.
     above: [Letters; 32],
-    /// The signs R, as far as an entry runs over them: the j from 2 to i+1 with R(i,j) equal. Each is kept as i−j+1, the
-    /// number of letters of w that the m-mer starting at j has. Place i holds the most, which is that of the least j; as
-    /// these letters are a prefix of w too, their own place holds the next.
+    /// The signs R, as far as an entry runs over them: the j from 2 to i+1 with R(i,j) equal. Each is kept as i−j+1,
+    /// the number of letters of w that the m-mer starting at j has. Place i holds the most, which is that of the
+    /// least j; as these letters are a prefix of w too, their own place holds the next.
     fewer: [u8; 32],
     /// The most letters an antemer shares: i_max of the source.
     most_shared: usize,
@@ -137,8 +137,8 @@ impl Rules {
         sum + u64::from(open.count_ones()) * part[0]
     }
 
-    /// Gives the part one letter more, from place `high` down to `low`: an entry asks for lower places alone, and `more`
-    /// keeps the place above it as it was, for the words that share more than i letters.
+    /// Gives the part one letter more, from place `high` down to `low`: an entry asks for lower places alone, and
+    /// `more` keeps the place above it as it was, for the words that share more than i letters.
     #[inline(always)]
     fn lengthen(part: &mut Part, low: usize, high: usize, entry: impl Fn(&Part, usize) -> u64) {
         let high = high & 31;
@@ -197,17 +197,19 @@ impl Rules {
         antemers
     }
 
-    /// Whether the m-mer of `shared` letters of w and then w from its first letter on is above w. The first i letters of w
-    /// are an antemer where this is so of i and of all j with R(i,j) equal, which are those of `fewer` and its own.
+    /// Whether the m-mer of `shared` letters of w and then w from its first letter on is above w. The first i letters
+    /// of w are an antemer where this is so of i and of all j with R(i,j) equal, which are those of `fewer` and its
+    /// own.
     #[inline(always)]
     fn stays_above(&self, shared: usize) -> bool {
         let last = last_letters(self.m - shared);
         (self.word >> (2 * shared)) ^ (self.key & last) > (self.word ^ self.key) & last
     }
 
-    /// The size, from the antemers by length: row `after` of the worksheet has that many letters after w. The places from
-    /// m−`after` on are words of length m or above, and the m-mers with fewer letters of w than that do not exist; shorter
-    /// words are all postmers. The last row asks for place m alone. Up to it no m-mer that exists is below.
+    /// The size, from the antemers by length: row `after` of the worksheet has that many letters after w. The places
+    /// from m−`after` on are words of length m or above, and the m-mers with fewer letters of w than that do not
+    /// exist; shorter words are all postmers. The last row asks for place m alone. Up to it no m-mer that exists is
+    /// below.
     #[inline(always)]
     fn with_postmers(&self, antemers: &[u64; 32]) -> u64 {
         let m = self.m & 31;

@@ -13,9 +13,9 @@ pub type Page = fn(u64, u64, u64, u64, u64, &mut [u64]) -> Result<u64, Refused>;
 
 /// The proved one is the first.
 pub const CONTENDERS: [Contender<Page>; 3] = [
-    Contender { name: "proved", call: trials::page },
-    Contender { name: "walk", call: walks::walk_page },
-    Contender { name: "descents", call: walks::descent_page },
+    Contender { name: "proved", what: "the proved page", most: None, call: trials::page },
+    Contender { name: "walk", what: "the same walk", most: Some(1.3), call: walks::walk_page },
+    Contender { name: "descents", what: "one descent", most: Some(1.0 / 3.0), call: walks::descent_page },
 ];
 
 const K: u64 = 31;
@@ -54,8 +54,8 @@ fn time(page: Page, m: u64, input: &Input, start: u64, room: &mut [u64]) -> f64 
     passed
 }
 
-/// For each contender, over all shelves, the mean of its best times: of the tables alone, by a page from the end; of a page of one k-mer; of a whole
-/// page.
+/// For each contender, over all shelves, the mean of its best times: of the tables alone, by a page from the end; of
+/// a page of one k-mer; of a whole page.
 struct Means {
     tables: Vec<f64>,
     one: Vec<f64>,
@@ -88,24 +88,32 @@ impl Means {
     }
 }
 
+/// The m for which something was asked.
+const ASKED: u64 = 10;
+
 /// A descent is what the last contender spends on each k-mer.
 pub fn measure(report: &mut Report) {
-    let (mut rows, mut descents, mut walks) = (Vec::new(), Vec::new(), Vec::new());
+    let [_, walk, descents] = CONTENDERS;
+    let (mut rows, mut ratios) = (Vec::new(), Vec::new());
     for m in [5, 10, 15, 20] {
         let means = Means::measured(m);
-        descents.push((means.each(0) / means.each(2), format!("m={m}")));
-        walks.push((means.page[0] / means.page[1], format!("m={m}")));
+        ratios.push((m, means.page[0] / means.page[1], means.each(0) / means.each(2)));
         for (c, Contender { name, .. }) in CONTENDERS.iter().enumerate() {
             let time = |time: f64| format!("{time:.0}");
             let each = format!("{:.1}", means.each(c));
             rows.push(vec![m.to_string(), name.to_string(), time(means.tables[c]), time(means.one[c]), each]);
         }
     }
-    let asked = |ratios: &[(f64, String)]| Worst::of(ratios.iter().filter(|(_, place)| place == "m=10").cloned());
-    report.ratio("page, each k-mer", "one descent", Some(1.0 / 3.0), &asked(&descents));
-    report.ratio("page, each k-mer", "one descent, any m", None, &Worst::of(descents));
-    report.ratio("page", "the same walk", Some(1.3), &asked(&walks));
-    report.ratio("page", "the same walk, any m", None, &Worst::of(walks));
+    let mut tell = |what: &str, beside: &Contender<Page>, ratios: Vec<(u64, f64)>| {
+        let worst = |some: fn(u64) -> bool| {
+            let some = ratios.iter().filter(|(m, _)| some(*m));
+            Worst::of(some.map(|(m, ratio)| (*ratio, format!("m={m}"))))
+        };
+        report.ratio(what, beside.what, beside.most, &worst(|m| m == ASKED));
+        report.ratio(what, &format!("{}, another m", beside.what), None, &worst(|m| m != ASKED));
+    };
+    tell("page", &walk, ratios.iter().map(|&(m, page, _)| (m, page)).collect());
+    tell("page, each k-mer", &descents, ratios.iter().map(|&(m, _, each)| (m, each)).collect());
     let heading =
         format!("Pages of {ROOM}, k={K}: nanoseconds, means over {SHELVES} shelves, best of {ROUNDS} rounds.");
     report.table(&heading, &["m", "", "tables alone", "a page of one", "each k-mer of a page"], &rows);

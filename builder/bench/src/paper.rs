@@ -1,7 +1,7 @@
-//! The size in safe Rust by the rules of source 000, with its tables: the signs R, the special alphabets, and the tables of
-//! antemers and of postmers by length and shared prefix. Each entry goes through the four letters, and for each of them
-//! through the j: 4·k·m² steps at most. Letters and places count from 1, as there. Where the print errs document 01 is
-//! followed.
+//! The size in safe Rust by the rules of source 000, with its tables: the signs R, the special alphabets, and the
+//! tables of antemers and of postmers by length and shared prefix. Each entry goes through the four letters, and for
+//! each of them through the j: 4·k·m² steps at most. Letters and places count from 1, as there. Where the print errs
+//! document 01 is followed.
 
 // Indices are those of the source.
 #![allow(clippy::needless_range_loop)]
@@ -94,9 +94,9 @@ impl Rules {
         bounds
     }
 
-    /// The words that share exactly i letters, from those of shorter lengths: for each letter that may follow, T is the first j
-    /// up to `last` at which it is not above, where it must be equal. `first_counts` tells whether the m-mer that starts with the
-    /// letter exists.
+    /// The words that share exactly i letters, from those of shorter lengths: for each letter that may follow, T is
+    /// the first j up to `last` at which it is not above, where it must be equal. `first_counts` tells whether the
+    /// m-mer that starts with the letter exists.
     #[inline(always)]
     fn exactly(
         &self,
@@ -149,8 +149,8 @@ impl Rules {
         }
     }
 
-    /// Whether the first i letters of w are an antemer: w follows, and each m-mer that begins in them and is tied so far must
-    /// come out above.
+    /// Whether the first i letters of w are an antemer: w follows, and each m-mer that begins in them and is tied so
+    /// far must come out above.
     #[inline(always)]
     fn ends_well(&self, i: usize, signs: &[[i8; 32]; 32]) -> bool {
         (1..=i).filter(|&j| j == 1 || signs[i][j] == 0).all(|j| {

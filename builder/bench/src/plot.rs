@@ -1,6 +1,6 @@
 //! The plot of the scans: for each kind of letters, the time a letter against k−m.
 
-use crate::scans::{CONTENDERS, K, KINDS, Times};
+use crate::scans::{CONTENDERS, K, Kind, Times};
 use std::fmt::Write;
 
 const PANEL: f64 = 300.0;
@@ -22,7 +22,7 @@ fn y(time: f64) -> f64 {
 
 /// The plot as an SVG picture.
 pub fn scans(times: &[Times]) -> String {
-    let (width, height) = (x(KINDS.len() - 1, K - 1) + 16.0, TOP + HEIGHT + 52.0);
+    let (width, height) = (x(Kind::ALL.len() - 1, K - 1) + 16.0, TOP + HEIGHT + 52.0);
     let mut svg = format!(
         "<svg xmlns=\"http://www.w3.org/2000/svg\" viewBox=\"0 0 {width} {height}\" width=\"{width}\" height=\"{height}\" \
          font-family=\"sans-serif\" font-size=\"12\" fill=\"#222\">\n<rect width=\"100%\" height=\"100%\" fill=\"#fff\"/>\n"
@@ -41,8 +41,8 @@ fn draw(svg: &mut String, times: &[Times]) -> std::fmt::Result {
         writeln!(svg, "<path d=\"M{at} 34h22\" stroke=\"{colour}\" stroke-width=\"{}\"/>", stroke(c))?;
         writeln!(svg, "<text x=\"{}\" y=\"38\">{}</text>", at + 28.0, contender.name)?;
     }
-    for (panel, kind) in KINDS.into_iter().enumerate() {
-        axes(svg, panel, kind)?;
+    for (panel, kind) in Kind::ALL.into_iter().enumerate() {
+        axes(svg, panel, kind.name())?;
         for (c, colour) in COLOURS.into_iter().enumerate().rev() {
             let of_kind = times.iter().filter(|times| times.kind == kind);
             let points = of_kind.map(|times| format!("{:.1},{:.1}", x(panel, K - times.m), y(times.best[c])));

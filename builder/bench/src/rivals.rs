@@ -1,6 +1,7 @@
-//! Scans in safe Rust: by block minima in one run, in one run tuned, and in two runs side by side; by a monotone deque; and by looking each window
-//! through.
+//! Scans in safe Rust: by block minima in one run, in one run tuned, and in two runs side by side; by a monotone
+//! deque; and by looking each window through.
 
+use crate::sizes::accepted;
 use plain::definitions::Refused;
 
 /// The longest sequence served.
@@ -20,15 +21,7 @@ fn first_bad(seq: &[u8]) -> Option<usize> {
 
 /// The number of windows, or the first refusal that applies.
 fn admit(k: u64, m: u64, key: u64, seq: &[u8], room_len: usize) -> Result<usize, Refused> {
-    if k == 0 || k > 31 {
-        return Err(Refused::by(1));
-    }
-    if m == 0 || m > k {
-        return Err(Refused::by(2));
-    }
-    if key >= 1 << (2 * m) {
-        return Err(Refused::by(3));
-    }
+    accepted(k, m, key, 0)?;
     if seq.len() > LONGEST {
         return Err(Refused::by(5));
     }
@@ -58,9 +51,9 @@ fn served(
     Ok(windows)
 }
 
-/// By block minima: a window of w words is a suffix of one block of w words and a prefix of the next, so its
+/// By block minima: a window is a suffix of one block of as many words and a prefix of the next, so its
 /// least word is the lesser of a suffix minimum and a running minimum. The cost does not depend on the letters.
-/// One run, letters by arithmetic, one path for every k and m: the form of the proved scan.
+/// One run, letters by arithmetic, one path for every k and m: the plain form.
 pub fn block_scan(k: u64, m: u64, key: u64, seq: &[u8], room: &mut [u8]) -> Result<usize, Refused> {
     served(k, m, key, seq, room, |positions| blocks(k as usize, m as usize, key, seq, positions))
 }
@@ -187,11 +180,11 @@ impl<const FAR: bool> Stamps<FAR> {
 
     /// The newer block is full and becomes the older.
     #[inline(always)]
-    fn turn(&mut self, w: usize) {
+    fn turn(&mut self, width: usize) {
         if FAR {
-            self.key += w as u64;
+            self.key += width as u64;
         } else {
-            self.base += w as u64;
+            self.base += width as u64;
         }
     }
 }
@@ -219,18 +212,18 @@ fn suffix_minima(ring: &mut [u64]) {
 /// All windows in one run: whole blocks, then the letters left over, then the window that no letter follows.
 #[inline(never)]
 fn all_blocks<const FAR: bool>(k: usize, m: usize, key: u64, seq: &[u8], places: &mut [[u8; 4]]) {
-    let w = k - m + 1;
+    let width = k - m + 1;
     let mut ring = [0; 32];
-    let ring = &mut ring[..w];
+    let ring = &mut ring[..width];
     let (head, letters) = seq.split_at(k);
     let mut stamps = Stamps::<FAR>::new(m, key);
     stamps.first(ring, head);
-    let whole = letters.len() / w * w;
+    let whole = letters.len() / width * width;
     let (letters, rest) = letters.split_at(whole);
     let (places, tail) = places.split_at_mut(whole);
-    for (letters, places) in letters.chunks_exact(w).zip(places.chunks_exact_mut(w)) {
+    for (letters, places) in letters.chunks_exact(width).zip(places.chunks_exact_mut(width)) {
         stamps.block(ring, letters, places);
-        stamps.turn(w);
+        stamps.turn(width);
     }
     let newer = stamps.block(ring, rest, tail);
     tail[rest.len()] = stamps.place(newer.min(ring[rest.len()]));
@@ -252,7 +245,7 @@ struct Words {
     empty: u64,
     k: usize,
     /// The number of words in a window and in a block.
-    w: usize,
+    width: usize,
     /// The bits below a word, where its place is put.
     low: u64,
 }
@@ -265,7 +258,7 @@ impl Words {
         for letter in *b"ACGT" {
             table[usize::from(letter)] = (digit(letter) << below) ^ empty ^ (empty << 2);
         }
-        Words { table, empty, k: k as usize, w: (k - m + 1) as usize, low: (1 << below.min(16)) - 1 }
+        Words { table, empty, k: k as usize, width: (k - m + 1) as usize, low: (1 << below.min(16)) - 1 }
     }
 
     #[inline(always)]
@@ -292,7 +285,7 @@ impl<const FAR: bool> Run<FAR> {
     fn start(words: &Words, head: &[u8], from: usize, slots: &mut [u64]) -> Self {
         let at = if FAR { from as u64 } else { 0 };
         let mut run = Run { word: words.empty, newer: u64::MAX, at, base: from as u32 };
-        let (before, rest) = head.split_at(head.len() - words.w);
+        let (before, rest) = head.split_at(head.len() - words.width);
         for &letter in before {
             run.word = words.next(run.word, letter);
         }
@@ -313,7 +306,7 @@ impl<const FAR: bool> Run<FAR> {
         self.at += 1;
         self.newer = self.newer.min(word);
         *place = self.place(words, self.newer.min(*slot));
-        *slot = if FAR { word } else { word - words.w as u64 };
+        *slot = if FAR { word } else { word - words.width as u64 };
     }
 
     #[inline(always)]
@@ -327,8 +320,8 @@ impl<const FAR: bool> Run<FAR> {
     fn turn(&mut self, words: &Words) {
         self.newer = u64::MAX;
         if !FAR {
-            self.at = words.w as u64;
-            self.base += words.w as u32;
+            self.at = words.width as u64;
+            self.base += words.width as u32;
         }
     }
 }
@@ -346,7 +339,7 @@ fn suffix(slot: &mut u64, least: &mut u64) {
 #[inline(never)]
 fn pair<const FAR: bool>(k: u64, m: u64, key: u64, seq: &[u8], places: &mut [[u8; 4]]) {
     let words = Words::new(k, m, key);
-    let half = (places.len() - 1) / 2 / words.w * words.w;
+    let half = (places.len() - 1) / 2 / words.width * words.width;
     if half > 0 {
         one_run::<FAR>(&words, &seq[..words.k], 0, &mut places[..1]);
         two_runs::<FAR>(&words, &seq[..2 * half + words.k], half, &mut places[1..2 * half + 1]);
@@ -358,11 +351,11 @@ fn pair<const FAR: bool>(k: u64, m: u64, key: u64, seq: &[u8], places: &mut [[u8
 #[inline(never)]
 fn one_run<const FAR: bool>(words: &Words, seq: &[u8], from: usize, places: &mut [[u8; 4]]) {
     let mut slots = [0; 32];
-    let slots = &mut slots[..words.w];
+    let slots = &mut slots[..words.width];
     let (head, rest) = seq.split_at(words.k);
     let mut run = Run::<FAR>::start(words, head, from, slots);
     places[0] = run.place(words, slots.iter().fold(u64::MAX, |least, &word| word.min(least)));
-    for (letters, places) in rest.chunks(words.w).zip(places[1..].chunks_mut(words.w)) {
+    for (letters, places) in rest.chunks(words.width).zip(places[1..].chunks_mut(words.width)) {
         let mut least = u64::MAX;
         for slot in slots.iter_mut().rev() {
             suffix(slot, &mut least);
@@ -378,14 +371,14 @@ fn one_run<const FAR: bool>(words: &Words, seq: &[u8], from: usize, places: &mut
 #[inline(always)]
 fn two_runs<const FAR: bool>(words: &Words, seq: &[u8], half: usize, places: &mut [[u8; 4]]) {
     let (mut slots_a, mut slots_b) = ([0; 32], [0; 32]);
-    let (slots_a, slots_b) = (&mut slots_a[..words.w], &mut slots_b[..words.w]);
+    let (slots_a, slots_b) = (&mut slots_a[..words.width], &mut slots_b[..words.width]);
     let (head_a, rest_a) = seq[..half + words.k].split_at(words.k);
     let (head_b, rest_b) = seq[half..].split_at(words.k);
     let mut a = Run::<FAR>::start(words, head_a, 0, slots_a);
     let mut b = Run::<FAR>::start(words, head_b, half, slots_b);
     let (places_a, places_b) = places.split_at_mut(half);
-    let letters = rest_a.chunks_exact(words.w).zip(rest_b.chunks_exact(words.w));
-    let places = places_a.chunks_exact_mut(words.w).zip(places_b.chunks_exact_mut(words.w));
+    let letters = rest_a.chunks_exact(words.width).zip(rest_b.chunks_exact(words.width));
+    let places = places_a.chunks_exact_mut(words.width).zip(places_b.chunks_exact_mut(words.width));
     for ((letters_a, letters_b), (places_a, places_b)) in letters.zip(places) {
         let (mut least_a, mut least_b) = (u64::MAX, u64::MAX);
         for (slot_a, slot_b) in slots_a.iter_mut().zip(slots_b.iter_mut()).rev() {
@@ -410,7 +403,7 @@ pub fn deque_scan(k: u64, m: u64, key: u64, seq: &[u8], room: &mut [u8]) -> Resu
     if windows == 0 {
         return Ok(0);
     }
-    let mut deque = Deque { ring: [(0, 0); 32], front: 0, back: 0, w: (k - m + 1) as u32 };
+    let mut deque = Deque { ring: [(0, 0); 32], front: 0, back: 0, width: (k - m + 1) as u32 };
     let mask = (1 << (2 * m)) - 1;
     let (before, rest) = seq.split_at(m as usize - 1);
     let (filling, sliding) = rest.split_at((k - m) as usize);
@@ -434,11 +427,11 @@ struct Deque {
     ring: [(u64, u32); 32],
     front: usize,
     back: usize,
-    w: u32,
+    width: u32,
 }
 
 impl Deque {
-    /// Takes the word at the place `at` in; answers the place of the least of the last w words.
+    /// Takes the word at the place `at` in; answers the place of the least of the words of the window.
     #[inline(always)]
     fn slide(&mut self, word: u64, at: u32) -> u32 {
         while self.front != self.back && self.ring[(self.back - 1) % 32].0 > word {
@@ -446,7 +439,7 @@ impl Deque {
         }
         self.ring[self.back % 32] = (word, at);
         self.back += 1;
-        while self.ring[self.front % 32].1 + self.w <= at {
+        while self.ring[self.front % 32].1 + self.width <= at {
             self.front += 1;
         }
         self.ring[self.front % 32].1

@@ -28,10 +28,15 @@ fn by_ties(k: u64, m: u64, key: u64, word: u64) -> Result<u64, Refused> {
 
 /// The proved one is the first.
 pub const CONTENDERS: [Contender<Size>; 4] = [
-    Contender { name: "proved", call: proved },
-    Contender { name: "paper", call: paper::size },
-    Contender { name: "masks", call: masks::size },
-    Contender { name: "prepared", call: masks::prepared_size },
+    Contender { name: "proved", what: "the proved size", most: None, call: proved },
+    Contender { name: "paper", what: "source 000's rules with its tables", most: Some(0.5), call: paper::size },
+    Contender { name: "masks", what: "the same rules, sets of letters as bits", most: None, call: masks::size },
+    Contender {
+        name: "prepared",
+        what: "the same, T found once for each shared prefix",
+        most: None,
+        call: masks::prepared_size,
+    },
 ];
 
 /// Which of refusals 1 to 4 applies to a rival's call, if any.
@@ -76,32 +81,32 @@ fn time(size: Size, k: u64, m: u64, inputs: &[(u64, u64)]) -> f64 {
     clock.elapsed().as_nanos() as f64 / inputs.len() as f64
 }
 
-/// The size beside one way to count, over few inputs and rounds.
-fn beside_counting(k: u64, m: u64, count: Size) -> Worst {
-    let contenders = [CONTENDERS[0], Contender { name: "counting", call: count }];
-    let inputs = inputs(8, m);
-    let best = best_times(&contenders, 4, |size| time(size, k, m, &inputs));
-    Worst::of([(best[0] / best[1], format!("k={k}, m={m}"))])
-}
+/// Two ways to count, beside which the size is measured over few inputs.
+const COUNTS: [(u64, u64, Contender<Size>); 2] = [
+    (K, 10, Contender { name: "ties", what: "counting by ties", most: None, call: by_ties }),
+    (8, 4, Contender { name: "all", what: "running through all k-mers", most: None, call: run_through }),
+];
 
 pub fn measure(report: &mut Report) {
-    let (mut ratios, mut rows) = (Vec::new(), Vec::new());
+    let (mut times, mut rows) = (Vec::new(), Vec::new());
     for m in [5, 10, 15, 20] {
         for number in INPUTS {
             let inputs = inputs(number, m);
             let best = best_times(&CONTENDERS, CALLS / number, |size| time(size, K, m, &inputs));
-            let place = format!("m={m}, {number} inputs");
-            ratios.push([1, 2, 3].map(|rival| (best[0] / best[rival], place.clone())));
             let cells = best.iter().map(|time| format!("{time:.0}"));
             rows.push([m.to_string(), number.to_string()].into_iter().chain(cells).collect());
+            times.push((best, format!("m={m}, {number} inputs")));
         }
     }
-    let worst = |rival: usize| Worst::of(ratios.iter().map(|row| row[rival].clone()));
-    report.ratio("size", "source 000's rules with its tables", Some(0.5), &worst(0));
-    report.ratio("size", "the same rules by sets of letters as bits", None, &worst(1));
-    report.ratio("size", "the same, T found once for each shared prefix", None, &worst(2));
-    report.ratio("size", "counting by ties", None, &beside_counting(K, 10, by_ties));
-    report.ratio("size", "running through all k-mers", None, &beside_counting(8, 4, run_through));
+    for (rival, contender) in CONTENDERS.iter().enumerate().skip(1) {
+        let ratio = |(best, place): &(Vec<f64>, String)| (best[0] / best[rival], place.clone());
+        report.ratio("size", contender.what, contender.most, &Worst::of(times.iter().map(ratio)));
+    }
+    for (k, m, counting) in COUNTS {
+        let inputs = inputs(8, m);
+        let best = best_times(&[CONTENDERS[0], counting], 4, |size| time(size, k, m, &inputs));
+        report.ratio("size", counting.what, counting.most, &Worst::of([(best[0] / best[1], format!("k={k}, m={m}"))]));
+    }
     let mut columns = vec!["m", "inputs"];
     columns.extend(CONTENDERS.map(|contender| contender.name));
     report.table(&format!("The size, k={K}: nanoseconds a call, best of the rounds."), &columns, &rows);

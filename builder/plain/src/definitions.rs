@@ -14,11 +14,6 @@ impl Refused {
     pub fn by(number: u32) -> Refused {
         Refused { number, place: 0 }
     }
-
-    /// The one number that a foreign form answers.
-    pub fn coded(self) -> u64 {
-        9_223_372_036_854_775_808 + 65_536 * u64::from(self.number) + self.place as u64
-    }
 }
 
 /// The letters of the word of this length with this number; the first letter is the highest.
@@ -29,11 +24,6 @@ pub fn letters(length: usize, mut number: u64) -> Vec<u8> {
         number /= 4;
     }
     letters
-}
-
-/// The number of a word.
-pub fn number(word: &[u8]) -> u64 {
-    word.iter().fold(0, |number, &letter| 4 * number + u64::from(letter))
 }
 
 /// The sum of a word with a key of its length: the XOR of the codes, letter by letter.
@@ -76,7 +66,8 @@ pub fn size_refused(k: u64, m: u64, key: u64, word: u64) -> Option<Refused> {
     order_refused(k, m, key).or_else(|| (word >= 4u64.pow(m as u32)).then(|| Refused::by(4)))
 }
 
-/// The shelf of a word: the k-mers whose vigemin is the word, in increasing order. Runs through all 4^k; for accepted inputs.
+/// The shelf of a word: the k-mers whose vigemin is the word, in increasing order. Runs through all 4^k; for accepted
+/// inputs.
 pub fn shelf(k: u64, m: u64, key: u64, word: u64) -> Vec<u64> {
     let (key, word) = (letters(m as usize, key), letters(m as usize, word));
     let stands_there = |number: &u64| {
@@ -86,8 +77,8 @@ pub fn shelf(k: u64, m: u64, key: u64, word: u64) -> Vec<u64> {
     (0..4u64.pow(k as u32)).filter(stands_there).collect()
 }
 
-/// The size of a shelf, by the k-mers that have the word at a position and any letters around it: each is counted at the position
-/// of its vigemin. Runs through k−m+1 times 4^(k−m); for accepted inputs.
+/// The size of a shelf, by the k-mers that have the word at a position and any letters around it: each is counted at
+/// the position of its vigemin. Runs through k−m+1 times 4^(k−m); for accepted inputs.
 pub fn size(k: u64, m: u64, key: u64, word: u64) -> u64 {
     let (key, word) = (letters(m as usize, key), letters(m as usize, word));
     let mut size = 0;
@@ -142,12 +133,12 @@ pub fn scan(k: u64, m: u64, key: u64, seq: &[u8], room: &mut [u8]) -> Result<usi
 
 #[cfg(test)]
 mod tests {
-    use super::{letters, number, scan, shelf, size};
+    use super::{letters, scan, shelf, size};
 
     #[test]
-    fn words_and_numbers() {
-        assert_eq!(letters(3, 43), [2, 2, 3]);
-        assert_eq!(number(&[2, 2, 3]), 43);
+    fn the_letters_of_a_number() {
+        assert_eq!(letters(3, 43), [2, 2, 3], "GGT");
+        assert_eq!(letters(4, 27), [0, 1, 2, 3], "ACGT");
     }
 
     /// Document 01's cases W1 to W6 and W8.

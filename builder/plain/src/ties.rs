@@ -1,5 +1,5 @@
-//! Counts for shelves of any k, from the definitions: a word is read letter by letter with all m-mers that have begun and are tied
-//! with w so far. It shares no rule with source 000 and no state with the library.
+//! Counts for shelves of any k, from the definitions: a word is read letter by letter with all m-mers that have begun
+//! and are tied with w so far. It shares no rule with source 000 and no state with the library.
 
 use crate::definitions::letters;
 use std::collections::HashMap;
@@ -30,8 +30,8 @@ struct Asked {
     equals: Equals,
 }
 
-/// How far a word is read. Bit t of `tied` stands for the m-mer that has t letters so far, all equal to those of w; `met`
-/// tells whether w was met.
+/// How far a word is read. Bit t of `tied` stands for the m-mer that has t letters so far, all equal to those of w;
+/// `met` tells whether w was met.
 #[derive(Clone, Copy, PartialEq, Eq, Hash)]
 struct Place {
     at: usize,
@@ -109,7 +109,8 @@ fn signs(a: u8, c: u8) -> [Sign; 4] {
     })
 }
 
-/// The size of a shelf: the k-mers with no m-mer below w and with w among them, since w is then the least. For accepted inputs.
+/// The size of a shelf: the k-mers with no m-mer below w and with w among them, since w is then the least. For
+/// accepted inputs.
 pub fn size(k: u64, m: u64, key: u64, word: u64) -> u64 {
     Counter::count(m, key, word, shelf(k, m))
 }

@@ -16,11 +16,10 @@ pub fn every_k_and_m() -> impl Iterator<Item = (u64, u64)> {
 
 /// A refusal as the definitions tell it.
 pub fn told(refusal: Refusal) -> Refused {
-    let place = if let Refusal::Letter { place } = refusal { place } else { 0 };
-    Refused { number: refusal.number(), place }
+    Refused { number: refusal.number(), place: refusal.place().unwrap_or(0) }
 }
 
-/// Each of k, m and the key is, once in twenty times, one that is refused, so that several are in some calls.
+/// Each of k, m and the key is, once in twenty times, one that is mostly refused, so that several are in some calls.
 pub fn damaged(numbers: &mut Numbers, k: u64, m: u64, key: u64) -> (u64, u64, u64) {
     let any = numbers.any();
     let key = if numbers.one_in(20) { numbers.one_of(&[4u64.pow(m as u32), any, HUGE]) } else { key };
