@@ -118,10 +118,3 @@ length-asBytes ps = ap length (asBytes-joined ps) ∙ length-joined-even (bytes 
 -- the bytes of a position stand at four times its place
 pub asBytes-at : (ps : List ℕ) (i : ℕ) → i < length ps → take 4 (drop (4 * i) (asBytes ps)) ≡ bytes 4 (getD ps i 0)
 asBytes-at ps i h = ap (λ (l : List ℕ). take 4 (drop (4 * i) l)) (asBytes-joined ps) ∙ joined-at (bytes 4) 4 (length-digits 256 4) ps 0 i h
-
--- one more position is written as bytes
-pub overTo-bytes : (ps old : List ℕ) (i : ℕ) {p : ℕ} {room : List ℕ} → room ≡ overTo (4 * i) (asBytes ps) old → p ≡ getD ps i 0 → i < length ps
-    → 4 * length ps ≤ length old → sets room (4 * i) (bytes 4 p) ≡ overTo (4 * suc i) (asBytes ps) old
-overTo-bytes ps old i {p} {room} e q h k =
-    let next : 4 * i + 4 ≡ 4 * suc i = omega arith in
-    rw next at (overTo-sets (asBytes ps) old (4 * i) (bytes 4 p) e (asBytes-at ps i h ∙ ap (bytes 4) (sym q)) (rw length-asBytes (omega arith)) (omega arith))

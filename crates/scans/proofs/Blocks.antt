@@ -25,7 +25,7 @@ pub record Values (side width bound : ℕ) (vs : List ℕ) : Type 0 where
 
 module _ (side width bound : ℕ) (vs : List ℕ) (v : Values side width bound vs) where
   -- the stamp of a value at a place of two blocks is below the top
-  pub stamp-low : (p q : ℕ) → p < length vs → q < side → getD vs p 0 * side + q ≤ top
+  stamp-low : (p q : ℕ) → p < length vs → q < side → getD vs p 0 * side + q ≤ top
   stamp-low p q h k = stamp-top top side bound (v .fits) (getD vs p 0) q (v .under p h) k
 
   -- one stamp more in a ring

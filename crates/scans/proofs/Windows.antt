@@ -2,7 +2,7 @@
 -- Assumes nothing.
 use Prim.Native.Nat.{ℕ, suc, _+_, _-_, _*_, _/_, _^_, _≤_, _<_, min}
 use mathlib.Core.List.{List}
-use mathlib.Core.Path.{_≡_, sym, ap, _∙_}
+use mathlib.Core.Path.{_≡_, refl, ap, _∙_}
 use native.Mathlib.Numerals.{add-one}
 use native.Mathlib.Omega.{arith}
 use lib.Bits.{bitAnd}
@@ -16,7 +16,7 @@ use Rattle.laws.specs.Rolls.{rolled, values}
 use Rattle.scans.specs.declared.Settings.{Settings}
 use Rattle.scans.specs.declared.Run.{Run}
 use Rattle.scans.specs.declared.Runs.{Runs}
-use Rattle.scans.specs.Readings.{top, Entries, Suffixes, keyedWord, Tabled, Rolled, Readable, Filled, Minima, Beginnable, Begun, Read, ReadBoth, Stepped, Positioned, Writable, positionsOf}
+use Rattle.scans.specs.Readings.{top, Entries, Suffixes, keyedWord, Rolled, Readable, Filled, Minima, Begun, Read, ReadBoth, Stepped, Positioned, Writable, positionsOf}
 use Rattle.scans.proofs.Blocks.{filled-entries, filled-more, filled-minima, minima-filled, minima-more, minima-place}
 use Rattle.scans.proofs.Letters.{length-mers, mers, rolled-from, mer-read, window-position}
 
@@ -169,12 +169,12 @@ module _ {s : Settings} {seq : List ℕ} {windows each : ℕ} {room : List ℕ} 
   length-positions =
       length-scan (keyed (wordOf (s .m) (s .key))) (s .k) (s .m) (spelled seq) ∙ rw length-map (omega (arith, w .all))
 
-  -- what reading the first windows asks, of rings of tops
-  pub begins : {table : List ℕ} → Tabled s table → Beginnable s table seq (behind windows)
+  -- what reading the first windows asks, of an empty table and rings of tops
+  pub begins : (Readable s seq × (behind windows + s .k ≤ length seq) × (length {A = ℕ} (tabulate (λ _. 0) 85) ≡ 85))
       × (Filled (s .side) (s .width) (values (s .m) (s .key) (spelled seq)) 0 0 (tabulate (λ _. top) 32)
       × Filled (s .side) (s .width) (values (s .m) (s .key) (spelled seq)) (behind windows) 0 (tabulate (λ _. top) 32))
-  begins t =
-      (record { tabled = t; readable = w .readable; inside = omega (arith, w .some, w .all) }, (ready s seq (w .readable) 0, ready s seq (w .readable) (behind windows)))
+  begins =
+      ((w .readable, omega (arith, w .some, w .all), refl), (ready s seq (w .readable) 0, ready s seq (w .readable) (behind windows)))
 
   -- the first windows were reached
   pub reached-first : {r : Runs} {left right : List ℕ} → ReadBoth s seq (behind windows) r left right → r .block + r .at ≡ 0

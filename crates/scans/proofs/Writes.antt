@@ -1,12 +1,11 @@
 -- Two runs that write the entries for their windows, whatever the entries are.
 -- Assumes nothing.
-use Prim.Native.Nat.{ℕ, suc, _+_, _*_, _/_, _≤_, _<_}
+use Prim.Native.Nat.{ℕ, suc, _+_, _/_, _<_}
 use mathlib.Core.List.{List}
 use mathlib.Core.Path.{_≡_, refl, _∙_}
 use native.Mathlib.Nat.{mul-suc, mul-le-mul-left}
 use native.Mathlib.Omega.{arith}
 use lib.ListN.{length}
-use lib.Seq.{length-sets}
 use Rattle.definitions.specs.Lists.{over}
 use Rattle.scans.specs.declared.Settings.{Settings}
 use Rattle.scans.specs.declared.Runs.{Runs}

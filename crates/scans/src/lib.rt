@@ -16,7 +16,17 @@ ghost use Rattle.scans.specs.Readings.{Entries, Suffixes, Prepared, SetT
 // The largest number of 64 bits: no stamp is above it.
 const TOP: u64 = 18446744073709551615;
 
-// Turns each of the first entries of two rings into the least of those from its place on. The rings go side by side: neither waits for the other.
+// The bytes of the letters.
+const A: usize = 65;
+
+const C: usize = 67;
+
+const G: usize = 71;
+
+const T: usize = 84;
+
+// Turns each of the first entries of two rings into the least of those from its place on. Both go in one
+// loop, so that one goes on while the other waits for its last minimum.
 fn suffixes(width: u64, left: &mut [u64; 32], right: &mut [u64; 32])
     requires { ⌜ Entries width (now left) × Entries width (now right) ⌝ }
     ensures { λ _. ⌜ Suffixes width (now (left .entry)) (now (left .exit)) ⌝ }
@@ -65,7 +75,7 @@ fn prepare(k: u64, m: u64, key: u64) -> Settings
     }
 }
 
-// What a letter brings into an m-mer that is kept: its sum with the key, and the key as the m-mer has it once shifted, which is thus undone.
+// What a letter brings into a kept m-mer that was shifted, by XOR: its own sum with the key, and the shifted key, which is so taken out again.
 fn brought(s: Settings, letter: u64) -> u64
     requires { ⌜ Prepared s × (letter < 4) ⌝ }
     ensures { λ r. ⌜ r ≡ brings s letter ⌝ }
@@ -74,15 +84,15 @@ fn brought(s: Settings, letter: u64) -> u64
     vigemins::value(last, s.high) ^ (s.high << 2)
 }
 
-// Writes at the byte of each letter what it brings, so that a byte is looked up as it is.
+// Writes at the byte of each letter what it brings, so that a byte is looked up as it is. T is byte 84, so 85 entries take every letter.
 fn set_table(s: Settings, table: &mut [u64; 85])
     requires { ⌜ Prepared s × (length (now table) ≡ 85) ⌝ }
     ensures { λ _. ⌜ Tabled s (now (table .exit)) ⌝ }
 {
-    table[b'A' as usize] = brought(s, 0);
-    table[b'C' as usize] = brought(s, 1);
-    table[b'G' as usize] = brought(s, 2);
-    table[b'T' as usize] = brought(s, 3);
+    table[A] = brought(s, 0);
+    table[C] = brought(s, 1);
+    table[G] = brought(s, 2);
+    table[T] = brought(s, 3);
 }
 
 // The m letters read last, once one more is read: one letter goes out, past the highest bits, and one comes in.
@@ -93,7 +103,7 @@ fn roll(table: &[u64; 85], word: u64, byte: u8) -> u64
     (word << 2) ^ table[byte as usize]
 }
 
-// Reads the letters of the m-mer at a place but the last one.
+// Reads all letters but the last of the m-mer at a place.
 fn start(s: Settings, table: &[u64; 85], seq: &[u8], from: u64) -> u64
     requires { ⌜ Beginnable s (now table) (now seq) from ⌝ }
     ensures { λ r. ⌜ r ≡ keyedWord s (rolled (s .m) (drop from (spelled (now (seq .entry)))) (s .m - 1)) ⌝ }
@@ -108,7 +118,7 @@ fn start(s: Settings, table: &[u64; 85], seq: &[u8], from: u64) -> u64
     word
 }
 
-// Reads a window into an empty ring, the stamps of its m-mers, and answers the m-mer read last.
+// Writes the stamps of the m-mers of the window at a place into an empty ring, and answers the last m-mer.
 fn fill(s: Settings, table: &[u64; 85], seq: &[u8], from: u64, ring: &mut [u64; 32]) -> u64
     requires { ⌜ Beginnable s (now table) (now seq) from ⌝ }
     requires { ⌜ Filled (s .side) (s .width) (values (s .m) (s .key) (spelled (now seq))) from 0 (now ring) ⌝ }
@@ -133,8 +143,9 @@ struct Run {
     least: u64,
 }
 
-// Two runs of windows that are read side by side, so that neither waits for the other's minima. The m-mers of each go by blocks of a window's width;
-// the left run's block starts at `block`, the right run's so far behind it as the run begins, and both windows begin `at` behind the start of theirs.
+// Two runs of windows that are read side by side, so that one goes on while the other waits for its last minimum. The m-mers of each go by blocks of a
+// window's width. The left run's block starts at `block`, the right run's at `block` plus the window that the right run begins with, and both windows
+// begin `at` behind the start of theirs.
 struct Runs {
     block: u64,
     at: u64,
@@ -142,21 +153,23 @@ struct Runs {
     right: Run,
 }
 
-// Reads the first window of each run; the right one begins at a window.
+// Sets the table, and reads the first window of each run: the first of all for the left one, and the one at `from` for the right one.
 fn begin(
     s: Settings,
-    table: &[u64; 85],
     seq: &[u8],
     from: u64,
+    table: &mut [u64; 85],
     left: &mut [u64; 32],
     right: &mut [u64; 32],
 ) -> Runs
-    requires { ⌜ Beginnable s (now table) (now seq) from ⌝ }
+    requires { ⌜ Readable s (now seq) × (from + s .k ≤ length (now seq)) × (length (now table) ≡ 85) ⌝ }
     requires { ⌜ Filled (s .side) (s .width) (values (s .m) (s .key) (spelled (now seq))) 0 0 (now left) ⌝ }
     requires { ⌜ Filled (s .side) (s .width) (values (s .m) (s .key) (spelled (now seq))) from 0 (now right) ⌝ }
+    ensures { λ _. ⌜ Tabled s (now (table .exit)) ⌝ }
     ensures { λ r. ⌜ ReadBoth s (now (seq .entry)) from r (now (left .exit)) (now (right .exit)) ⌝ }
     ensures { λ r. ⌜ r .block + r .at ≡ 0 ⌝ }
 {
+    set_table(s, table);
     let word = fill(s, table, seq, 0, left);
     let other = fill(s, table, seq, from, right);
     suffixes(s.width, left, right);
@@ -195,7 +208,8 @@ fn turned(s: Settings, r: Runs, left: &mut [u64; 32], right: &mut [u64; 32]) -> 
     r
 }
 
-// Reads one letter more of a run, which stands at a place of the sequence, where the block has m-mers left to be read after it.
+// Reads one letter more of a run, which stands at a place of the sequence, where the block has m-mers left to be read after it. For the least the
+// place of a stamp is counted from the block before, as the places are that are left in the ring.
 fn step(
     s: Settings,
     table: &[u64; 85],
@@ -225,7 +239,7 @@ fn position(s: Settings, block: u64, at: u64, least: u64, ring: &[u64; 32]) -> u
     block + (lowest & (s.side - 1))
 }
 
-// Reads the window after the last one of each run; the left one ends in the letter at a place.
+// Reads the window after the last one of each run. The left one ends in the letter at a place, the right one `from` letters behind it.
 fn next_windows(
     s: Settings,
     table: &[u64; 85],
@@ -282,12 +296,11 @@ fn write_positions(s: Settings, seq: &[u8], windows: u64, room: &mut [u32])
     ensures { λ _. ⌜ now (room .exit) ≡ over (positionsOf s (now (seq .entry))) (now (room .entry)) ⌝ }
 {
     let mut table: [u64; 85] = [0; 85];
-    set_table(s, &mut table);
     let mut left: [u64; 32] = [TOP; 32];
     let mut right: [u64; 32] = [TOP; 32];
     let half = (windows + 1) / 2;
     let from = windows - half;
-    let mut r = begin(s, &table, seq, from, &mut left, &mut right);
+    let mut r = begin(s, seq, from, &mut table, &mut left, &mut right);
     let mut i: u64 = 0;
     loop {
         set_both(s, r, from, i, &left, &right, room);
@@ -335,8 +348,8 @@ fn put(position: u64, place: usize, room: &mut [u8])
     room[place + 3] = (position % 256) as u8;
 }
 
-// Writes the positions for the window i of each run, as bytes. A ring is read between the two: the compiler then makes one store of the four bytes of
-// each, and else eight stores of a byte.
+// Writes the positions for the window i of each run, as bytes. The second is read from its ring once the first is put: the compiler then makes one store
+// of the four bytes of each, and would else make eight stores of a byte.
 fn put_both(
     s: Settings,
     r: Runs,
@@ -364,18 +377,17 @@ fn put_both(
     );
 }
 
-// Writes the position for each window at the front of the room, as bytes.
+// Writes the position for each window at the front of the room, as bytes. It differs from `write_positions` in the type of its room alone.
 fn write_bytes(s: Settings, seq: &[u8], windows: u64, room: &mut [u8])
     requires { ⌜ Writable s (now seq) windows 4 (now room) ⌝ }
     ensures { λ _. ⌜ now (room .exit) ≡ over (asBytes (positionsOf s (now (seq .entry)))) (now (room .entry)) ⌝ }
 {
     let mut table: [u64; 85] = [0; 85];
-    set_table(s, &mut table);
     let mut left: [u64; 32] = [TOP; 32];
     let mut right: [u64; 32] = [TOP; 32];
     let half = (windows + 1) / 2;
     let from = windows - half;
-    let mut r = begin(s, &table, seq, from, &mut left, &mut right);
+    let mut r = begin(s, seq, from, &mut table, &mut left, &mut right);
     let mut i: u64 = 0;
     loop {
         put_both(s, r, from, i, &left, &right, room);

@@ -3,9 +3,7 @@
 use Prim.Native.Nat.{_+_}
 use mathlib.Core.Path.{_≡_}
 use native.Mathlib.Omega.{arith}
-use borrow.Author.Needs.{needs}
 use Rattle.scans.specs.Readings.{ReadBoth}
-use Rattle.scans.proofs.Windows.{block-inside}
 use Rattle.scans.proofs.next_windows.Statement.{statement}
 use Rattle.scans.proofs.next_windows.Tie as tie
 

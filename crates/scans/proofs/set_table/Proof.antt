@@ -40,23 +40,11 @@ tabled s t p e a b c d =
 brought-requires : tie.Need-brought-requires
 brought-requires c κs = search needs
 
-cast-table : tie.Need-cast-table
-cast-table c = search needs
-
-mul-table : tie.Need-mul-table
-mul-table c = search needs
-
 element-write-table : tie.Need-element-write-table
 element-write-table c = search needs
 
 brought-requires-2 : tie.Need-brought-requires-2
 brought-requires-2 c κs = search needs
-
-cast-table-2 : tie.Need-cast-table-2
-cast-table-2 c = search needs
-
-mul-table-2 : tie.Need-mul-table-2
-mul-table-2 c = search needs
 
 element-write-table-2 : tie.Need-element-write-table-2
 element-write-table-2 c = search needs
@@ -64,23 +52,11 @@ element-write-table-2 c = search needs
 brought-requires-3 : tie.Need-brought-requires-3
 brought-requires-3 c κs = search needs
 
-cast-table-3 : tie.Need-cast-table-3
-cast-table-3 c = search needs
-
-mul-table-3 : tie.Need-mul-table-3
-mul-table-3 c = search needs
-
 element-write-table-3 : tie.Need-element-write-table-3
 element-write-table-3 c = search needs
 
 brought-requires-4 : tie.Need-brought-requires-4
 brought-requires-4 c κs = search needs
-
-cast-table-4 : tie.Need-cast-table-4
-cast-table-4 c = search needs
-
-mul-table-4 : tie.Need-mul-table-4
-mul-table-4 c = search needs
 
 element-write-table-4 : tie.Need-element-write-table-4
 element-write-table-4 c = search needs
@@ -95,19 +71,11 @@ set-table-spec =
     tie.close
     (tie.spec
     brought-requires
-    cast-table
-    mul-table
     element-write-table
     brought-requires-2
-    cast-table-2
-    mul-table-2
     element-write-table-2
     brought-requires-3
-    cast-table-3
-    mul-table-3
     element-write-table-3
     brought-requires-4
-    cast-table-4
-    mul-table-4
     element-write-table-4
     returns)

@@ -1,6 +1,5 @@
 -- `scans::turned` meets its contract: blocks that were read whole become the last ones, and otherwise nothing changes.
 -- Assumes nothing.
-use Prim.Native.Nat.{_+_}
 use mathlib.Core.Path.{_≡_, refl}
 use native.Mathlib.Omega.{arith}
 use Rattle.scans.proofs.Windows.{block-inside, whole-entries, turn-read}

@@ -2,7 +2,7 @@
 -- The measure is how many windows are left.
 -- Assumes nothing.
 use Prim.Native.Nat.{_-_}
-use mathlib.Core.Path.{refl, _∙_}
+use mathlib.Core.Path.{_∙_}
 use native.Mathlib.Omega.{arith}
 use Rattle.definitions.specs.Words.{bytes}
 use Rattle.definitions.specs.Outcomes.{asBytes}
@@ -20,44 +20,41 @@ Inv-loop s seq windows room₀ table left₀ right₀ half from r₀ i₀ room l
 abbrev μ-loop : tie.MeasureT-loop
 μ-loop s seq windows room₀ table left₀ right₀ half from r₀ i₀ room left right r i = windows - i
 
-set-table-requires : tie.Need-set-table-requires Inv-loop μ-loop
-set-table-requires c κs = (c .before .before .before .pre .readable .prepared, refl)
-
 add-half : tie.Need-add-half Inv-loop μ-loop
 add-half c =
-    let w = c .before .before .before .before .pre in
+    let w = c .before .before .pre in
     omega (arith, w .all, w .readable .short)
 
 sub-from : tie.Need-sub-from Inv-loop μ-loop
-sub-from c = omega (arith, c .before .before .before .before .pre .some)
+sub-from c = omega (arith, c .before .before .pre .some)
 
 begin-requires : tie.Need-begin-requires Inv-loop μ-loop
-begin-requires c κs = begins (c .before .before .before .before .before .before .before .pre) (c .before .before .before .set-table .ensures)
+begin-requires c κs = begins (c .before .before .before .before .before .pre)
 
 -- how the entries are laid
 layout : (c : tie.Start Inv-loop μ-loop) → (let ps = positionsOf (c .args .s) (c .args .seq .now) in Layout ps (c .args .windows) 4 (bytes 4) (asBytes ps))
 layout c = bytes-laid (positionsOf (c .args .s) (c .args .seq .now)) (length-positions (c .pre))
 
 loop-holds : tie.Need-loop-holds Inv-loop μ-loop
-loop-holds c = writing-first (c .before .before .before .before .before .before .before .before .pre) (layout (c .before .before .before .before .before .before .before .before)) (c .begin .ensures .0) (c .begin .ensures .1)
+loop-holds c = writing-first (c .before .before .before .before .before .before .pre) (layout (c .before .before .before .before .before .before)) (c .begin .ensures .1 .0) (c .begin .ensures .1 .1)
 
 put-both-requires : tie.Need-put-both-requires Inv-loop μ-loop
-put-both-requires c κs = puttable (c .before .before .before .before .before .before .before .before .before .before .before .before .pre) (layout (c .before .before .before .before .before .before .before .before .before .before .before .before)) (c .before .before .before .loop .inv)
+put-both-requires c κs = puttable (c .before .before .before .before .before .before .before .before .before .before .pre) (layout (c .before .before .before .before .before .before .before .before .before .before)) (c .before .before .before .loop .inv)
 
 add-i : tie.Need-add-i Inv-loop μ-loop
 add-i c =
-    let w = c .before .before .before .before .before .before .before .before .before .before .before .before .before .before .before .pre in
+    let w = c .before .before .before .before .before .before .before .before .before .before .before .before .before .pre in
     omega (arith, w .all, w .readable .short, c .before .before .before .before .before .before .loop .inv .reached .within)
 
 same-length : tie.Need-same-length Inv-loop μ-loop
 same-length c = c .before .before .before .put-both .kept .1 .1 .1 .1 .1 .1 .0 ∙ c .before .before .before .before .before .before .before .loop .inv .long
 
 returns : tie.Need-returns Inv-loop μ-loop
-returns c = writing-all (c .before .before .before .before .before .before .before .before .before .before .before .before .before .before .before .before .pre) (layout (c .before .before .before .before .before .before .before .before .before .before .before .before .before .before .before .before)) (c .before .before .before .before .before .before .before .loop .inv) (c .before .before .before .put-both .ensures) (c .if1 .taken)
+returns c = writing-all (c .before .before .before .before .before .before .before .before .before .before .before .before .before .before .pre) (layout (c .before .before .before .before .before .before .before .before .before .before .before .before .before .before)) (c .before .before .before .before .before .before .before .loop .inv) (c .before .before .before .put-both .ensures) (c .if1 .taken)
 
 add-place : tie.Need-add-place Inv-loop μ-loop
 add-place c =
-    let w = c .before .before .before .before .before .before .before .before .before .before .before .before .before .before .before .before .before .pre in
+    let w = c .before .before .before .before .before .before .before .before .before .before .before .before .before .before .before .pre in
     omega (arith, w .all, w .readable .short, w .readable .prepared .kFew, c .before .before .before .before .before .before .before .before .loop .inv .reached .within)
 
 sub-place : tie.Need-sub-place Inv-loop μ-loop
@@ -65,9 +62,9 @@ sub-place c = omega arith
 
 next-windows-requires : tie.Need-next-windows-requires Inv-loop μ-loop
 next-windows-requires c κs =
-    let w = c .before .before .before .before .before .before .before .before .before .before .before .before .before .before .before .before .before .before .before .before .pre in
+    let w = c .before .before .before .before .before .before .before .before .before .before .before .before .before .before .before .before .before .before .pre in
     let at = c .before .before .before .before .before .before .before .before .before .before .before .loop .inv .reached in
-    ((c .before .before .before .before .before .before .before .before .before .before .before .before .before .before .before .before .set-table .ensures, w .readable), (at .read, next-place w at (c .before .before .before .before .if1 .left)))
+    ((c .before .before .before .before .before .before .before .before .before .before .before .before .begin .ensures .0, w .readable), (at .read, next-place w at (c .before .before .before .before .if1 .left)))
 
 loop-less : tie.Need-loop-less Inv-loop μ-loop
 loop-less c = omega (arith, c .before .before .before .before .before .before .before .before .before .before .before .before .loop .inv .reached .within)
@@ -76,7 +73,7 @@ loop-again : tie.Need-loop-again Inv-loop μ-loop
 loop-again c =
     let put = c .before .before .before .before .before .before .before .before .put-both in
     let next = c .next-windows .ensures in
-    writing-next (c .before .before .before .before .before .before .before .before .before .before .before .before .before .before .before .before .before .before .before .before .before .pre) (layout (c .before .before .before .before .before .before .before .before .before .before .before .before .before .before .before .before .before .before .before .before .before)) (c .before .before .before .before .before .before .before .before .before .before .before .before .loop .inv) (put .ensures) (c .before .before .before .before .before .if1 .left) (put .kept .1 .1 .1 .1 .1 .1 .0) (next .0) (next .1)
+    writing-next (c .before .before .before .before .before .before .before .before .before .before .before .before .before .before .before .before .before .before .before .pre) (layout (c .before .before .before .before .before .before .before .before .before .before .before .before .before .before .before .before .before .before .before)) (c .before .before .before .before .before .before .before .before .before .before .before .before .loop .inv) (put .ensures) (c .before .before .before .before .before .if1 .left) (put .kept .1 .1 .1 .1 .1 .1 .0) (next .0) (next .1)
 
 pub write-bytes-spec : {M : Type 1} → statement M
 write-bytes-spec =
@@ -84,7 +81,6 @@ write-bytes-spec =
     (tie.spec
     Inv-loop
     μ-loop
-    set-table-requires
     add-half
     sub-from
     begin-requires
