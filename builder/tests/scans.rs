@@ -66,8 +66,8 @@ impl Call<'_> {
         let byte = got.1.iter().zip(&expected.1).position(|(got, expected)| got != expected);
         let place = byte.map(|byte| byte as i64 - (GUARD + self.shift) as i64);
         panic!(
-            "{call}: k {k}, m {m}, key {key}, {} letters, {room_len} bytes of room, moved by {shift}: answered {:?} where {:?} is right; byte of the \
-             room that differs: {place:?}; the letters begin {}",
+            "{call}: k {k}, m {m}, key {key}, {} letters, {room_len} bytes of room, moved by {shift}: answered {:?} where \
+             {:?} is right; byte of the room that differs: {place:?}; the letters begin {}",
             seq.len(),
             got.0,
             expected.0,

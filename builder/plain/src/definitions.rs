@@ -3,7 +3,7 @@
 /// The number of a refusal, and beside it the place of a bad letter or 0.
 #[derive(Clone, Copy, Debug, PartialEq, Eq)]
 pub struct Refused {
-    /// From 1 to 7.
+    /// The number that document 01 gives it.
     pub number: u32,
     /// The place of the first bad letter beside 6.
     pub place: usize,
