@@ -61,6 +61,16 @@ module _ {A : Type 0} where
     pub overTo-all : {i : ℕ} {room : List A} → room ≡ overTo i new old → i ≡ length new → room ≡ over new old
     overTo-all e q = rw (q, take-length) at e
 
+-- after a store there is at its place what was stored, and at every other what was there
+pub set-holds : (list : List ℕ) (i p : ℕ) {v x : ℕ} → i < length list → (p ≡ i → v ≡ x) → ((p ≡ i → ⊥) → getD list p 0 ≡ x) → getD (set list i v) p 0 ≡ x
+set-holds list i p {v} {x} h e o = go (eqb p i) refl
+  where
+    go : (t : Bool) → eqb p i ≡ t → getD (set list i v) p 0 ≡ x
+    go true q =
+        let same : p ≡ i = eqb-true p i q in
+        ap (λ (n : ℕ). getD (set list i v) n 0) same ∙ getD-set-same list i v 0 h ∙ e same
+    go false q = getD-set-other list i p v 0 (eqb-false p i q) ∙ o (eqb-false p i q)
+
 -- ---- numbers written behind a place
 
 -- behind `to`, the entries from lo to below hi are written and no other is
@@ -75,21 +85,16 @@ module _ {to : ℕ} {new : ℕ → ℕ} where
   written-none lo room = record { long = refl; inside = λ i h k. absurd (omega arith); outside = λ p h. refl }
 
   module _ {lo hi i v : ℕ} {old room : List ℕ} (s : Written lo hi to new old room) (k : to + i < length room) (e : v ≡ new i) where
-    -- every other entry is as it was
-    set-at : (j : ℕ) → (j ≡ i → ⊥) → getD (set room (to + i) v) (to + j) 0 ≡ getD room (to + j) 0
-    set-at j n = getD-set-other room (to + i) (to + j) v 0 (λ r. n (omega arith))
-
     -- the new entry is there, and the others that were written
-    set-inside : (j : ℕ) → (t : Bool) → eqb j i ≡ t → ((j ≡ i → ⊥) → getD room (to + j) 0 ≡ new j) → getD (set room (to + i) v) (to + j) 0 ≡ new j
-    set-inside j true q h = let same : j ≡ i = eqb-true j i q in rw same (getD-set-same room (to + i) v 0 k ∙ e)
-    set-inside j false q h = set-at j (eqb-false j i q) ∙ h (eqb-false j i q)
+    set-inside : (j : ℕ) → ((j ≡ i → ⊥) → getD room (to + j) 0 ≡ new j) → getD (set room (to + i) v) (to + j) 0 ≡ new j
+    set-inside j h = set-holds room (to + i) (to + j) k (λ r. let same : j ≡ i = omega arith in rw same e) (λ n. h (λ q. n (ap (λ (l : ℕ). to + l) q)))
 
     -- one more entry is written, after the others
     pub written-up : hi ≡ i → lo ≤ i → Written lo (suc i) to new old (set room (to + i) v)
     written-up q h =
         record {
           long = length-set room (to + i) v ∙ s .long;
-          inside = λ j l u. set-inside j (eqb j i) refl (λ n. s .inside j l (omega (arith, n)));
+          inside = λ j l u. set-inside j (λ n. s .inside j l (omega (arith, n)));
           outside = λ p o. getD-set-other room (to + i) p v 0 (λ r. ⊎-elim (λ l. omega arith) (λ l. omega arith) o)
               ∙ s .outside p (⊎-elim (λ l. inl l) (λ l. inr (omega arith)) o);
         }
@@ -99,7 +104,7 @@ module _ {to : ℕ} {new : ℕ → ℕ} where
     written-down q h =
         record {
           long = length-set room (to + i) v ∙ s .long;
-          inside = λ j l u. set-inside j (eqb j i) refl (λ n. s .inside j (omega (arith, n)) u);
+          inside = λ j l u. set-inside j (λ n. s .inside j (omega (arith, n)) u);
           outside = λ p o. getD-set-other room (to + i) p v 0 (λ r. ⊎-elim (λ l. omega arith) (λ l. omega arith) o)
               ∙ s .outside p (⊎-elim (λ l. inl (omega arith)) (λ l. inr l) o);
         }

@@ -9,9 +9,10 @@ use native.Mathlib.Omega.{arith}
 use borrow.Author.Tests.{eqb-true, eqb-false}
 use lib.Dec.{eqb}
 use lib.ListN.{length, getD, set, take, drop, length-set}
-use lib.Seq.{ext-getD, getD-take, getD-drop, getD-set-same, getD-set-other}
+use lib.Seq.{ext-getD, getD-take, getD-drop, getD-set-other}
 use Rattle.definitions.specs.Vigemins.{leastPlace}
 use Rattle.laws.specs.Minima.{length-stretch}
+use Rattle.laws.specs.Rooms.{set-holds}
 use Rattle.laws.specs.Stamps.{lowest, stamped, length-stamped, stamped-at, leastFrom, leastFrom-last, leastFrom-join, leastFrom-place, stamp-top, Under}
 use Rattle.scans.specs.Readings.{top, Entries, Suffixes, Filled, Minima}
 
@@ -31,14 +32,7 @@ module _ (side width bound : ℕ) (vs : List ℕ) (v : Values side width bound v
   -- one stamp more in a ring
   stamps-more : (start at : ℕ) (ring : List ℕ) → at < length ring → ((q : ℕ) → q < at → getD ring q 0 ≡ getD vs (start + q) 0 * side + q)
       → (q : ℕ) → q < suc at → getD (set ring at (getD vs (start + at) 0 * side + at)) q 0 ≡ getD vs (start + q) 0 * side + q
-  stamps-more start at ring h stamps q l = go (eqb q at) refl
-    where
-      stamp : ℕ
-      stamp = getD vs (start + at) 0 * side + at
-
-      go : (t : Bool) → eqb q at ≡ t → getD (set ring at stamp) q 0 ≡ getD vs (start + q) 0 * side + q
-      go true e = rw (eqb-true q at e) (getD-set-same ring at stamp 0 h)
-      go false e = getD-set-other ring at q stamp 0 (eqb-false q at e) ∙ stamps q (omega (arith, eqb-false q at e))
+  stamps-more start at ring h stamps q l = set-holds ring at q h (λ e. rw e) (λ n. stamps q (omega (arith, n)))
 
   -- one value more is stamped into a ring
   pub filled-more : {block at : ℕ} {ring : List ℕ} → Filled side width vs block at ring → at < width

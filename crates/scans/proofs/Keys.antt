@@ -1,46 +1,42 @@
 -- Keyed words: what a letter brings into one when it comes in.
 -- Assumes nothing.
 use Prim.Native.Nat.{ℕ, zero, suc, _+_, _*_, _/_, _%_, _^_, _≤_, _<_}
-use mathlib.Core.Bool.{Bool, true}
 use mathlib.Core.Path.{_≡_, refl, sym, ap, _∙_}
-use native.Mathlib.Nat.{zero-mul, zero-mod, add-zero, mod-lt, one-le-pow, zero-lt-suc, pow-suc, mul-div-cancel, mul-mod-left}
+use native.Mathlib.Nat.{zero-mul, zero-mod, add-zero, mod-lt, one-le-pow, pow-suc, mul-div-cancel, mul-mod-left}
 use native.Mathlib.Omega.{arith}
 use borrow.Author.Tests.{eqb-true}
 use lib.Arith.{digits-div, digits-mod, mod-mul}
 use lib.Bits.{bitXor, xor-block, xor-lt, xor-comm, xor-self, xor-zero-l, xor-shifted, xor-mod}
 use lib.Dec.{eqb}
-use Rattle.definitions.specs.Lists.{all, tabulate}
-use Rattle.laws.specs.Numbers.{four-pos, four-pow, all-tabulate, xor-letters, xor-scale}
+use Rattle.definitions.specs.Lists.{all}
+use Rattle.definitions.specs.Words.{letters}
+use Rattle.laws.specs.Numbers.{four-pos, four-pow, each-letter, xor-letters, xor-scale}
 use Rattle.laws.specs.Rolls.{roll-high}
 use Rattle.laws.specs.Stamps.{stamp-room}
 use Rattle.scans.specs.declared.Settings.{Settings}
 use Rattle.scans.specs.Readings.{top, Prepared, keyedWord, brings}
 
--- a test that holds over both digits holds of each
-each-bit : (p : ℕ → Bool) → all p (tabulate (λ i. i) 2) ≡ true → {a : ℕ} → a < 2 → p a ≡ true
-each-bit p e {a} h = all-tabulate p (λ i. i) 2 e a h
-
--- the XOR of three digits, by twos
-bit-assoc : {a b c : ℕ} → a < 2 → b < 2 → c < 2 → bitXor (bitXor a b) c ≡ bitXor a (bitXor b c)
-bit-assoc {a} {b} {c} ha hb hc =
+-- the sum of three letters
+letter-assoc : {a b c : ℕ} → a < 4 → b < 4 → c < 4 → bitXor (bitXor a b) c ≡ bitXor a (bitXor b c)
+letter-assoc {a} {b} {c} ha hb hc =
     eqb-true (bitXor (bitXor a b) c) (bitXor a (bitXor b c))
-    (each-bit (λ z. eqb (bitXor (bitXor a b) z) (bitXor a (bitXor b z)))
-    (each-bit (λ y. all (λ z. eqb (bitXor (bitXor a y) z) (bitXor a (bitXor y z))) (tabulate (λ i. i) 2))
-    (each-bit (λ x. all (λ y. all (λ z. eqb (bitXor (bitXor x y) z) (bitXor x (bitXor y z))) (tabulate (λ i. i) 2)) (tabulate (λ i. i) 2)) refl ha)
+    (each-letter (λ z. eqb (bitXor (bitXor a b) z) (bitXor a (bitXor b z)))
+    (each-letter (λ y. all (λ z. eqb (bitXor (bitXor a y) z) (bitXor a (bitXor y z))) letters)
+    (each-letter (λ x. all (λ y. all (λ z. eqb (bitXor (bitXor x y) z) (bitXor x (bitXor y z))) letters) letters) refl ha)
     hb)
     hc)
 
--- a number by its last digit and the others
-parted : (n : ℕ) → n / 2 * 2 ^ 1 + n % 2 ≡ n
+-- a number by its last letter and the others
+parted : (n : ℕ) → n / 4 * 2 ^ 2 + n % 4 ≡ n
 parted n = omega arith
 
--- three numbers with one digit more
-assoc-more : (a b c x y z : ℕ) → x < 2 → y < 2 → z < 2 → bitXor (bitXor a b) c ≡ bitXor a (bitXor b c)
-    → bitXor (bitXor (a * 2 ^ 1 + x) (b * 2 ^ 1 + y)) (c * 2 ^ 1 + z) ≡ bitXor (a * 2 ^ 1 + x) (bitXor (b * 2 ^ 1 + y) (c * 2 ^ 1 + z))
+-- three numbers with one letter more
+assoc-more : (a b c x y z : ℕ) → x < 4 → y < 4 → z < 4 → bitXor (bitXor a b) c ≡ bitXor a (bitXor b c)
+    → bitXor (bitXor (a * 2 ^ 2 + x) (b * 2 ^ 2 + y)) (c * 2 ^ 2 + z) ≡ bitXor (a * 2 ^ 2 + x) (bitXor (b * 2 ^ 2 + y) (c * 2 ^ 2 + z))
 assoc-more a b c x y z hx hy hz e =
-    rw (xor-block 1 a b x y hx hy, xor-block 1 b c y z hy hz, xor-block 1 (bitXor a b) c (bitXor x y) z (xor-lt 1 x y hx hy) hz, xor-block 1 a (bitXor b c) x (bitXor y z) hx (xor-lt 1 y z hy hz), e, bit-assoc hx hy hz)
+    rw (xor-block 2 a b x y hx hy, xor-block 2 b c y z hy hz, xor-block 2 (bitXor a b) c (bitXor x y) z (xor-lt 2 x y hx hy) hz, xor-block 2 a (bitXor b c) x (bitXor y z) hx (xor-lt 2 y z hy hz), e, letter-assoc hx hy hz)
 
--- the XOR of three numbers, by twos, up to a bound
+-- the XOR of three numbers, letter by letter, up to a bound
 assoc-upto : (n a b c : ℕ) → a ≤ n → b ≤ n → c ≤ n → bitXor (bitXor a b) c ≡ bitXor a (bitXor b c)
 assoc-upto zero a b c ha hb hc =
     let x : a ≡ 0 = omega arith in
@@ -48,11 +44,10 @@ assoc-upto zero a b c ha hb hc =
     let z : c ≡ 0 = omega arith in
     rw (x, y, z)
 assoc-upto (suc n) a b c ha hb hc =
-    let two : 0 < 2 = zero-lt-suc 1 in
-    let halves = assoc-upto n (a / 2) (b / 2) (c / 2) (omega arith) (omega arith) (omega arith) in
-    rw (parted a, parted b, parted c) at (assoc-more (a / 2) (b / 2) (c / 2) (a % 2) (b % 2) (c % 2) (mod-lt a two) (mod-lt b two) (mod-lt c two) halves)
+    let others = assoc-upto n (a / 4) (b / 4) (c / 4) (omega arith) (omega arith) (omega arith) in
+    rw (parted a, parted b, parted c) at (assoc-more (a / 4) (b / 4) (c / 4) (a % 4) (b % 4) (c % 4) (mod-lt a four-pos) (mod-lt b four-pos) (mod-lt c four-pos) others)
 
--- the XOR of three numbers, by twos
+-- the XOR of three numbers
 xor-assoc : (a b c : ℕ) → bitXor (bitXor a b) c ≡ bitXor a (bitXor b c)
 xor-assoc a b c = assoc-upto (a + b + c) a b c (omega arith) (omega arith) (omega arith)
 

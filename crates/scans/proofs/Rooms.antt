@@ -8,15 +8,15 @@ use mathlib.Core.Path.{_≡_, refl, sym, ap, _∙_}
 use native.Mathlib.Nat.{add-zero, add-suc, one-mul, mul-zero, mul-suc, mul-le-mul-left}
 use native.Mathlib.Numerals.{add-one}
 use native.Mathlib.Omega.{arith}
-use borrow.Author.Tests.{eqb-true, eqb-false, ltb-true, ltb-false}
-use lib.Dec.{eqb, ltb}
+use borrow.Author.Tests.{ltb-true, ltb-false}
+use lib.Dec.{ltb}
 use lib.ListN.{length, getD, set, take, drop, length-set, List·getD-append}
-use lib.Seq.{drop-cons, ext-getD, getD-take, getD-drop, getD-append-add, getD-set-same, getD-set-other, sets, length-sets}
+use lib.Seq.{drop-cons, ext-getD, getD-take, getD-drop, getD-append-add, sets, length-sets}
 use Rattle.definitions.specs.Lists.{over}
 use Rattle.definitions.specs.Words.{bytes}
 use Rattle.definitions.specs.Outcomes.{asBytes}
 use Rattle.laws.specs.Numbers.{length-digits}
-use Rattle.laws.specs.Rooms.{length-over, length-asBytes, asBytes-at}
+use Rattle.laws.specs.Rooms.{length-over, set-holds, length-asBytes, asBytes-at}
 
 -- an entry of the room is as it is to be
 abbrev Right : List ℕ → List ℕ → ℕ → Type 0
@@ -33,15 +33,7 @@ pub record Placed (goal : List ℕ) (near from far end : ℕ) (room : List ℕ) 
 abbrev Part : List ℕ → ℕ → List ℕ → Type 0
 Part goal i more = (q : ℕ) → q < length more → getD more q 0 ≡ getD goal (i + q) 0
 
--- where one entry is put that is to be there, it is right, and so is every other that was
-set-right : (goal room : List ℕ) (i v : ℕ) → i < length room → v ≡ getD goal i 0 → (p : ℕ) → ((p ≡ i → ⊥) → Right goal room p) → Right goal (set room i v) p
-set-right goal room i v h e p o = go (eqb p i) refl
-  where
-    go : (t : Bool) → eqb p i ≡ t → Right goal (set room i v) p
-    go true q = rw (eqb-true p i q) (getD-set-same room i v 0 h ∙ e)
-    go false q = getD-set-other room i p v 0 (eqb-false p i q) ∙ o (eqb-false p i q)
-
--- and where several are put in a row
+-- where entries are put in a row that are to be there, they are right, and so is every other that was
 sets-right : (goal room : List ℕ) (i : ℕ) (more : List ℕ) → i + length more ≤ length room → Part goal i more
     → (p : ℕ) → ((p < i) ⊎ (i + length more ≤ p) → Right goal room p) → Right goal (sets room i more) p
 sets-right goal room i [] h e p o = o (go (ltb p i) refl)
@@ -51,7 +43,7 @@ sets-right goal room i [] h e p o = o (go (ltb p i) refl)
     go false q = inr (omega (arith, ltb-false p i q))
 sets-right goal room i (v ∷ more) h e p o =
     sets-right goal (set room i v) (suc i) more (rw length-set (omega arith)) (λ q l. e (suc q) (omega arith) ∙ place q) p
-    (λ l. set-right goal room i v (omega arith) (e 0 (omega arith) ∙ ap (λ (n : ℕ). getD goal n 0) (add-zero i)) p (λ n. o (⊎-elim (λ b. inl (omega (arith, n))) (λ b. inr (omega arith)) l)))
+    (λ l. set-holds room i p (omega arith) (λ s. e 0 (omega arith) ∙ ap (λ (n : ℕ). getD goal n 0) (add-zero i ∙ sym s)) (λ n. o (⊎-elim (λ b. inl (omega (arith, n))) (λ b. inr (omega arith)) l)))
   where
     place : (q : ℕ) → getD goal (i + suc q) 0 ≡ getD goal (suc i + q) 0
     place q = let same : i + suc q ≡ suc i + q = omega arith in rw same

@@ -11,9 +11,9 @@ use native.Mathlib.Omega.{arith}
 use borrow.Author.Tests.{lt-ltb, le-ltb, eq-eqb, ne-eqb, eqb-true, eqb-false, leb-true, leb-false}
 use lib.Dec.{eqb, leb}
 use lib.ListN.{length, getD, set, length-set}
-use lib.Seq.{getD-set-same, getD-set-other}
+use lib.Seq.{getD-set-other}
 use Rattle.laws.specs.Numbers.{four-pos}
-use Rattle.laws.specs.Rooms.{Written, written-up}
+use Rattle.laws.specs.Rooms.{Written, set-holds, written-up}
 use Rattle.laws.specs.Walks.{ways-le}
 use Rattle.shelves.specs.Descents.{allowed, leads, met, waysFrom, waysUnder, Live, MovesOf, Tables, WaysTo, Ready, RowReady}
 
@@ -47,24 +47,13 @@ module _ {m c u v : ℕ} {next moves : List ℕ} (s : MovesTo m c next moves) (h
   moves-more =
       record {
         long = length-set (set moves c u) (128 + c) v ∙ first-long;
-        unmet = λ i k. getD-set-other (set moves c u) (128 + c) i v 0 (λ r. omega arith) ∙ unmet-at i k (eqb i c) refl;
-        after = λ i k. after-at i k (eqb i c) refl;
+        unmet = λ i k. getD-set-other (set moves c u) (128 + c) i v 0 (λ r. omega arith) ∙ set-holds moves c i (omega (arith, s .long)) (λ q. rw q e) (λ n. s .unmet i (omega (arith, n)));
+        after = λ i k. set-holds (set moves c u) (128 + c) (128 + i) (omega (arith, first-long)) (λ r. let same : i ≡ c = omega arith in rw same f)
+            (λ n. getD-set-other moves c (128 + i) u 0 (λ r. omega arith) ∙ s .after i (omega (arith, n)));
       }
     where
       first-long : length (set moves c u) ≡ 256
       first-long = length-set moves c u ∙ s .long
-
-      unmet-at : (i : ℕ) → i < c + 1 → (t : Bool) → eqb i c ≡ t → getD (set moves c u) i 0 ≡ cond (eqb (getD next i 0) m) (getD next i 0 + 32) (getD next i 0)
-      unmet-at i k true q = let same : i ≡ c = eqb-true i c q in rw same (getD-set-same moves c u 0 (omega (arith, s .long)) ∙ e)
-      unmet-at i k false q = getD-set-other moves c i u 0 (eqb-false i c q) ∙ s .unmet i (omega (arith, eqb-false i c q))
-
-      after-at : (i : ℕ) → i < c + 1 → (t : Bool) → eqb i c ≡ t → getD (set (set moves c u) (128 + c) v) (128 + i) 0 ≡ getD next i 0 + 32
-      after-at i k true q = let same : i ≡ c = eqb-true i c q in rw same (getD-set-same (set moves c u) (128 + c) v 0 (omega (arith, first-long)) ∙ f)
-      after-at i k false q =
-          let other : i ≡ c → ⊥ = eqb-false i c q in
-          getD-set-other (set moves c u) (128 + c) (128 + i) v 0 (λ r. other (omega arith))
-          ∙ getD-set-other moves c (128 + i) u 0 (λ r. omega arith)
-          ∙ s .after i (omega (arith, other))
 
 -- ---- states
 

@@ -7,14 +7,14 @@ use mathlib.Core.Logic.{inl, inr, ⊎-elim}
 use mathlib.Core.Path.{_≡_, refl, sym, ap, _∙_}
 use native.Mathlib.Nat.{zero-add, add-zero}
 use native.Mathlib.Omega.{arith}
-use borrow.Author.Tests.{eqb-true, eqb-false, ltb-true, ltb-false, leb-true, leb-false}
-use lib.Dec.{eqb, ltb, leb}
+use borrow.Author.Tests.{ltb-true, ltb-false, leb-true, leb-false}
+use lib.Dec.{ltb, leb}
 use lib.ListN.{length, getD, set, length-set, List·getD-eq-default}
-use lib.Seq.{getD-set-same, getD-set-other, ext-getD}
+use lib.Seq.{getD-set-other, ext-getD}
 use Rattle.definitions.specs.Lists.{tabulate}
 use Rattle.definitions.specs.Shelves.{row}
 use Rattle.laws.specs.Filters.{length-tabulate, tabulate-at}
-use Rattle.laws.specs.Rooms.{Written}
+use Rattle.laws.specs.Rooms.{Written, set-holds}
 use Rattle.worksheets.specs.Columns.{UpTo, wayOf, sumOf, RowReady, WayReady, SumReady, ColumnIs}
 use Rattle.laws.specs.RulesHold.{total-letters}
 
@@ -70,13 +70,9 @@ module _ {n to v : ℕ} {given : ℕ → ℕ} {list : List ℕ} (u : UpTo n to g
   upTo-more =
       record {
         long = length-set list to v ∙ u .long;
-        below = λ i k. at i k (eqb i to) refl;
+        below = λ i k. set-holds list to i (omega (arith, u .long)) (λ q. rw q e) (λ n. u .below i (omega (arith, n)));
         above = λ i k. getD-set-other list to i v 0 (λ r. omega arith) ∙ u .above i (omega arith);
       }
-    where
-      at : (i : ℕ) → i < suc to → (t : Bool) → eqb i to ≡ t → getD (set list to v) i 0 ≡ given i
-      at i k true q = let same : i ≡ to = eqb-true i to q in rw same (getD-set-same list to v 0 (omega (arith, u .long)) ∙ e)
-      at i k false q = getD-set-other list to i v 0 (eqb-false i to q) ∙ u .below i (omega (arith, eqb-false i to q))
 
 -- none is given
 pub upTo-none : (n : ℕ) (given : ℕ → ℕ) → UpTo n 0 given (tabulate (λ i. 0) n)

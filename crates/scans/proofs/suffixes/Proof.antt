@@ -2,17 +2,15 @@
 -- others are as they were. The measure is i.
 -- Assumes nothing.
 use Prim.Native.Nat.{ℕ, suc, _-_, _≤_, _<_, min}
-use mathlib.Core.Bool.{Bool, true, false}
 use mathlib.Core.List.{List}
 use mathlib.Core.Logic.{_⊎_, inl, inr, ⊎-elim}
 use mathlib.Core.Path.{_≡_, refl, sym, _∙_}
 use native.Mathlib.Omega.{arith}
 use native.Mathlib.Nat.{min-eq-left}
 use borrow.Author.Needs.{needs}
-use borrow.Author.Tests.{eqb-true, eqb-false}
-use lib.Dec.{eqb}
 use lib.ListN.{length, getD, set, take, drop, length-set}
-use lib.Seq.{drop-cons, getD-set-same, getD-set-other}
+use lib.Seq.{drop-cons, getD-set-other}
+use Rattle.laws.specs.Rooms.{set-holds}
 use Rattle.laws.specs.Stamps.{lowest}
 use Rattle.scans.specs.Readings.{top, Entries, Suffixes}
 use Rattle.scans.proofs.suffixes.Statement.{statement}
@@ -55,17 +53,13 @@ module _ (width : ℕ) (old : List ℕ) (given : Entries width old) where
       record {
         inside = omega (arith, f .inside);
         now = there;
-        turned = λ q h k. at q h k (eqb q i) refl;
+        turned = λ q h k. set-holds ring i q (omega (arith, f .full, f .inside, given .few)) (λ l. rw l there) (λ o. f .turned q (omega (arith, o)) k);
         others = λ q h. getD-set-other ring i q v 0 (λ l. ⊎-elim (λ a. omega arith) (λ a. omega (arith, f .inside)) h) ∙ f .others q (⊎-elim (λ a. inl (omega arith)) inr h);
         full = length-set ring i v ∙ f .full;
       }
     where
       there : v ≡ lowest top (take (width - i) (drop i old))
       there = e ∙ rw (f .others i (inl (omega arith)), f .now, ← n) (sym (least-first i (omega (arith, f .inside))))
-
-      at : (q : ℕ) → i ≤ q → q < width → (t : Bool) → eqb q i ≡ t → getD (set ring i v) q 0 ≡ lowest top (take (width - q) (drop q old))
-      at q h k true l = rw (eqb-true q i l) (getD-set-same ring i v 0 (omega (arith, f .full, f .inside, given .few)) ∙ there)
-      at q h k false l = getD-set-other ring i q v 0 (eqb-false q i l) ∙ f .turned q (omega (arith, eqb-false q i l)) k
 
   -- all are turned
   done : {ring : List ℕ} {least : ℕ} → From width old ring 0 least → Suffixes width old ring
