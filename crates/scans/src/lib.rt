@@ -62,8 +62,8 @@ fn prepare(k: u64, m: u64, key: u64) -> Settings
     ensures { λ r. ⌜ SetTo k m key r ⌝ }
 {
     let width = k - m + 1;
-    let rest = 31 - m;
-    let side = powers::power(rest) * 4;
+    let rest = 32 - m;
+    let side = powers::power(rest);
     let high = key * side;
     Settings {
         k,

@@ -2,7 +2,7 @@
 -- Assumes nothing.
 use Prim.Native.Nat.{ℕ, suc, _+_, _-_, _*_, _^_, _≤_, _<_}
 use mathlib.Core.Path.{_≡_, refl, _∙_}
-use native.Mathlib.Nat.{pow-suc, pow-le-pow-right, one-le-pow}
+use native.Mathlib.Nat.{pow-le-pow-right, one-le-pow}
 use native.Mathlib.Omega.{arith}
 use borrow.Author.Needs.{needs}
 use lib.Bits.{and-mask}
@@ -15,33 +15,33 @@ use Rattle.scans.specs.Readings.{top, SetTo}
 use Rattle.scans.proofs.prepare.Statement.{statement}
 use Rattle.scans.proofs.prepare.Tie as tie
 
-module _ {k m key power : ℕ} (a : OrderAccepted k m key) (e : power ≡ powerOutcome (31 - m)) where
+module _ {k m key side : ℕ} (a : OrderAccepted k m key) (e : side ≡ powerOutcome (32 - m)) where
   -- the side is a power of four
-  side-is : power * 4 ≡ 4 ^ suc (31 - m)
-  side-is = rw (e ∙ power-four (31 - m) (omega arith), pow-suc)
+  side-is : side ≡ 4 ^ (32 - m)
+  side-is = e ∙ power-four (32 - m) (omega (arith, a .mSome))
 
   -- as many letters as fill 64 bits
-  side-fills : 4 ^ m * (power * 4) ≡ suc top
+  side-fills : 4 ^ m * side ≡ suc top
   side-fills =
-      let all : m + suc (31 - m) ≡ 32 = omega (arith, a .mFits, a .kFew) in
-      rw (side-is, ← pow-add 4 m (suc (31 - m)), all)
+      let all : m + (32 - m) ≡ 32 = omega (arith, a .mFits, a .kFew) in
+      rw (side-is, ← pow-add 4 m (32 - m), all)
 
   -- of 62 bits at most
-  side-few : power * 4 ≤ 4 ^ 31
+  side-few : side ≤ 4 ^ 31
   side-few = rw side-is (pow-le-pow-right four-pos {j = 31} (omega (arith, a .mSome)))
 
   -- it is not 0
-  side-some : 0 < power * 4
-  side-some = rw side-is (one-le-pow (suc (31 - m)) 4 four-pos)
+  side-some : 0 < side
+  side-some = rw side-is (one-le-pow (32 - m) 4 four-pos)
 
   -- the key times the side fits
-  key-high : key * (power * 4) + power * 4 ≤ suc top
-  key-high = stamp-room top (power * 4) (4 ^ m) (omega (arith, side-fills)) key (a .keySmall)
+  key-high : key * side + side ≤ suc top
+  key-high = stamp-room top side (4 ^ m) (omega (arith, side-fills)) key (a .keySmall)
 
   -- the settings
-  set-to : SetTo k m key (record { k = k; m = m; key = key; width = k - m + 1; side = power * 4; high = key * (power * 4) })
+  set-to : SetTo k m key (record { k = k; m = m; key = key; width = k - m + 1; side = side; high = key * side })
   set-to =
-      let bits : power * 4 ≡ 2 ^ (2 * suc (31 - m)) = side-is ∙ four-pow (suc (31 - m)) in
+      let bits : side ≡ 2 ^ (2 * (32 - m)) = side-is ∙ four-pow (32 - m) in
       record {
         prepared =
             record {
@@ -51,11 +51,11 @@ module _ {k m key power : ℕ} (a : OrderAccepted k m key) (e : power ≡ powerO
               kFew = a .kFew;
               keySmall = a .keySmall;
               stampsFit = side-fills;
-              placesFit = rw side-is (omega (arith, twice-le-four (suc (31 - m)), a .kFew, a .mFits));
+              placesFit = rw side-is (omega (arith, twice-le-four (32 - m), a .kFew, a .mFits));
               sideFew = side-few;
-              placesAre = λ n. rw bits (and-mask n (2 * suc (31 - m)));
+              placesAre = λ n. rw bits (and-mask n (2 * (32 - m)));
               highIs = refl;
-              scales = λ a b. rw bits (xor-scale (2 * suc (31 - m)) a b);
+              scales = λ a b. rw bits (xor-scale (2 * (32 - m)) a b);
             };
         kIs = refl;
         mIs = refl;
@@ -74,11 +74,6 @@ sub-rest c = search needs
 power-requires : tie.Need-power-requires
 power-requires c κs = search needs
 
-mul-side : tie.Need-mul-side
-mul-side c =
-    let start = c .before in
-    omega (arith, side-few (start .pre) (c .power .ensures))
-
 mul-high : tie.Need-mul-high
 mul-high c =
     let start = c .before in
@@ -89,4 +84,4 @@ returns c = set-to (c .before .pre) (c .power .ensures)
 
 pub prepare-spec : {M : Type 1} → statement M
 prepare-spec =
-    tie.close (tie.spec sub-width add-width sub-rest power-requires mul-side mul-high returns)
+    tie.close (tie.spec sub-width add-width sub-rest power-requires mul-high returns)
