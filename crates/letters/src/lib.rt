@@ -1,9 +1,8 @@
 // Letters: which bytes are letters, and which letter each is. Assumes nothing.
 ghost use mathlib.Core.Path.{_≡_};
 ghost use Rattle.definitions.specs.Lists.{all};
-ghost use Rattle.definitions.specs.Words.{isLetter};
+ghost use Rattle.definitions.specs.Words.{letterOf, isLetter};
 ghost use Rattle.definitions.specs.Refusals.{firstBad};
-ghost use Rattle.letters.specs.Letters.{codeOf};
 
 // Whether a byte is a letter.
 pub fn is_letter(byte: u8) -> bool
@@ -12,11 +11,14 @@ pub fn is_letter(byte: u8) -> bool
     (byte == b'A') | (byte == b'C') | (byte == b'G') | (byte == b'T')
 }
 
-// The letter that a byte is read as, by arithmetic; of a byte that is no letter, whatever the arithmetic gives.
+// The letter that a byte is read as; 4 where it is none. The arithmetic is right for letters alone.
 pub fn letter(byte: u8) -> u64
-    ensures { λ r. ⌜ r ≡ codeOf byte ⌝ }
+    ensures { λ r. ⌜ r ≡ letterOf byte ⌝ }
 {
-    (byte as u64) * 3 / 8 % 4
+    if is_letter(byte) {
+        return (byte as u64) * 3 / 8 % 4;
+    }
+    4
 }
 
 // Whether every byte is a letter. It goes through to the end, so that several bytes can be tested at once.

@@ -8,20 +8,25 @@ use native.Mathlib.Nat.{pow-le-pow-right, lt-of-lt-of-le}
 use native.Mathlib.Numerals.{add-one}
 use native.Mathlib.Omega.{arith}
 use borrow.Author.Needs.{needs}
+use borrow.Author.Tests.{ltb-true}
 use lib.ListN.{length, getD, take, length-map}
 use lib.Seq.{length-take-le, take-length}
-use Rattle.definitions.specs.Words.{val, spelled}
+use Rattle.definitions.specs.Words.{val, letterOf, isLetter, spelled}
 use Rattle.laws.specs.Accepted.{PackAccepted}
+use Rattle.laws.specs.Filters.{all-at, at-map}
 use Rattle.laws.specs.Numbers.{four-pos, number-lt, letters-take, spelled-letters}
 use Rattle.laws.specs.Rolls.{number-front}
-use Rattle.letters.specs.Letters.{codeOf, code-lt, code-spelled}
 use Rattle.words.proofs.read.Statement.{statement}
 use Rattle.words.proofs.read.Tie as tie
 
 module _ (t : List ℕ) (a : PackAccepted t) (i : ℕ) (h : i < length t) where
   -- one letter more is read
-  one-more : val (take i (spelled t)) * 4 + codeOf (getD t i 0) ≡ val (take (suc i) (spelled t))
-  one-more = rw (code-spelled t i (a .allLetters) h) (sym (number-front 4 (spelled t) i (rw length-map h)))
+  one-more : val (take i (spelled t)) * 4 + letterOf (getD t i 0) ≡ val (take (suc i) (spelled t))
+  one-more = rw (← at-map letterOf t 0 0 i h) (sym (number-front 4 (spelled t) i (rw length-map h)))
+
+  -- it is one of the four
+  letter-lt : letterOf (getD t i 0) < 4
+  letter-lt = ltb-true (letterOf (getD t i 0)) 4 (all-at isLetter t 0 i (a .allLetters) h)
 
   -- before it fewer than 31 letters were read
   small : val (take i (spelled t)) < 4 ^ 30
@@ -53,7 +58,7 @@ add-word : tie.Need-add-word Inv-loop μ-loop
 add-word c =
     let at = c .before .before .before .loop in
     let start = c .before .before .before .before .before in
-    omega (arith, at .inv .1, small (start .args .text .now) (start .pre) (at .i) (c .before .before .loop-test .taken), code-lt (getD (start .args .text .now) (at .i) 0), c .letter .ensures)
+    omega (arith, at .inv .1, small (start .args .text .now) (start .pre) (at .i) (c .before .before .loop-test .taken), letter-lt (start .args .text .now) (start .pre) (at .i) (c .before .before .loop-test .taken), c .letter .ensures)
 
 add-i : tie.Need-add-i Inv-loop μ-loop
 add-i c = search needs
