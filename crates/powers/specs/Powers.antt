@@ -1,22 +1,29 @@
 -- The power of four that the table answers, and what the table holds.
 -- Assumes nothing.
-use Prim.Native.Nat.{ℕ, _^_, _≤_, _<_}
-use mathlib.Core.Bool.{cond}
+use Prim.Native.Nat.{ℕ, _+_, _-_, _*_, _%_, _^_, _≤_, _<_}
 use mathlib.Core.List.{List}
 use mathlib.Core.Path.{_≡_, ap, _∙_}
-use borrow.Author.Tests.{le-leb}
-use lib.Dec.{leb}
+use native.Mathlib.Nat.{lt-of-le-of-lt, pow-le-pow-right, mod-eq-of-lt, mul-mod-left}
+use native.Mathlib.Omega.{arith}
 use lib.ListN.{getD}
+use lib.Pow.{pow-add}
 use Rattle.definitions.specs.Lists.{tabulate}
 use Rattle.laws.specs.Filters.{tabulate-at}
+use Rattle.laws.specs.Numbers.{four-pos}
 
--- 4^n; 0 where n is above 31, since 4^32 takes more than 64 bits
+-- 4^n in 64 bits: what passes them is dropped
 abbrev pub powerOutcome : ℕ → ℕ
-powerOutcome n = cond (leb n 31) (4 ^ n) 0
+powerOutcome n = 4 ^ n % 2 ^ 64
 
 -- up to 31 it is the power
 pub power-four : (n : ℕ) → n ≤ 31 → powerOutcome n ≡ 4 ^ n
-power-four n h = rw (le-leb n 31 h)
+power-four n h = mod-eq-of-lt (lt-of-le-of-lt (pow-le-pow-right four-pos {j = 31} h) (omega arith))
+
+-- above 31 nothing is left of it
+pub power-none : (n : ℕ) → 31 < n → powerOutcome n ≡ 0
+power-none n h =
+    let more : n ≡ (n - 32) + 32 = omega arith in
+    ap (λ (i : ℕ). 4 ^ i % 2 ^ 64) more ∙ ap (λ (p : ℕ). p % 2 ^ 64) (pow-add 4 (n - 32) 32) ∙ mul-mod-left (4 ^ (n - 32)) (2 ^ 64)
 
 -- a list is the table of the powers
 pub record PowersAre (powers : List ℕ) : Type 0 where

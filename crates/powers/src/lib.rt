@@ -54,7 +54,7 @@ pub fn powers() -> [u64; 32]
     POWERS
 }
 
-// 4^n; 0 where n is above 31, since 4^32 takes more than 64 bits.
+// 4^n in 64 bits. What passes them is dropped, and where n is above 31 that is all of it.
 pub fn power(n: u64) -> u64
     ensures { λ r. ⌜ r ≡ powerOutcome n ⌝ }
 {
