@@ -20,7 +20,7 @@ use Rattle.laws.specs.Numbers.{firstBad-all}
 use Rattle.laws.specs.Refusals.{refusal-unmet, unmet-refusal, refusal-append, refusal-most}
 
 -- the test of a length, and of m, is not met exactly by the numbers from 1 to a top
-inside : (n top : ℕ) → (eqb n 0 || ltb top n) ≡ false → (0 < n) × (n ≤ top)
+pub inside : (n top : ℕ) → (eqb n 0 || ltb top n) ≡ false → (0 < n) × (n ≤ top)
 inside zero top e = absurd (true≢false e)
 inside (suc n) top e = (zero-lt-suc n, ltb-false top (suc n) (rw (ne-eqb (suc n) 0 (suc-ne-zero n)) at e))
 
