@@ -5,10 +5,10 @@ use Prim.Native.Nat.{ℕ, _-_}
 use mathlib.Core.Bool.{Bool, true, not, _&&_}
 use mathlib.Core.List.{List, [], _∷_, _++_, map}
 use mathlib.Core.Path.{_≡_, refl}
-use lib.Dec.{eqb}
-use lib.ListN.{length, replicate}
-use Rattle.definitions.specs.Lists.{all, tabulate}
-use Rattle.definitions.specs.Words.{words, same, val, spelled, text}
+use lib.Dec.{ltb, eqb}
+use lib.ListN.{length, getD, take, drop, replicate}
+use Rattle.definitions.specs.Lists.{filter, all, tabulate}
+use Rattle.definitions.specs.Words.{Word, letters, words, same, val, sum, spelled, text}
 use Rattle.definitions.specs.Refusals.{refusal, badSequence}
 use Rattle.definitions.specs.Outcomes.{packOutcome, unpackOutcome, vigeminOutcome, sizeOutcome, worksheetOutcome, counterOutcome, pageOutcome, scanOutcome, foreignSizeOutcome, foreignScanOutcome}
 use Rattle.definitions.specs.Outcomes.{counterGrounds, packAnswer, unpackAnswer, vigeminAnswer, sizeAnswer, worksheetAnswer, counterAnswer, pageAnswer, scanAnswer}
@@ -43,6 +43,8 @@ pub data Case : Type 0 where
   sizeIs : Setting → ℕ → Case
   -- the rows of the two columns; all rows after these hold 0
   rowsAre : Setting → List ℕ → List ℕ → Case
+  -- the postmers of row 1 as Lemma 8 is printed
+  printGives : Setting → ℕ → Case
   -- the numbers on the whole shelf
   shelfIs : Setting → List ℕ → Case
   -- a page: its start, the room lent, and then the refusal, how many are written, and the room after
@@ -60,6 +62,26 @@ numbered f s = f (s .k) (length (s .key)) (val (spelled (s .key))) (val (spelled
 abbrev rows : List ℕ → List ℕ
 rows ns = ns ++ replicate (31 - length ns) 0
 
+-- Lemma 8 of source 000 as printed, for the postmers of row 1. Each is w and one letter more, so they are as many as the letters that may follow w. Where
+-- w's last l letters are its first l, an m-mer agrees with w so far, and the letter that follows must not rank below w's at place l, if that m-mer exists.
+-- In row 1 the m-mer of place m − 1 alone exists. The print asks it of the letter, and not of the place: where the letter of place l has an m-mer that exists
+
+-- whether the last l letters of w are its first l
+abbrev tied : Word → ℕ → Bool
+tied w l = same (drop (length w - l) w) (take l w)
+
+-- whether the print takes place l for a restraint
+abbrev restrains : Word → ℕ → Bool
+restrains w l = tied w l && tied w (length w - 1) && eqb (getD w l 0) (getD w (length w - 1) 0)
+
+-- whether a letter ranks below w's at place l, under a key
+abbrev ranksBelow : Word → Word → ℕ → ℕ → Bool
+ranksBelow key w b l = ltb (sum b (getD key l 0)) (sum (getD w l 0) (getD key l 0))
+
+-- the number of letters that may follow w, as Lemma 8 is printed
+abbrev pub printedRow : Word → Word → ℕ
+printedRow key w = length (filter (λ b. all (λ l. not (restrains w l && ranksBelow key w b l)) (tabulate (λ l. l) (length w))) letters)
+
 -- the test of one case. A shelf is asked for as a page with one entry of room too many, and a scan is lent exactly its room, and then one
 -- entry more: what is too many must stay as it was
 unfoldable pub holds : Case → Bool
@@ -68,6 +90,7 @@ holds (sizeIs s n) = let o = numbered sizeOutcome s in eqb (o .refusal) 0 && eqb
 holds (rowsAre s ante post) =
     let o = numbered worksheetOutcome s in
     eqb (o .refusal) 0 && same (o .antemers) (rows ante) && same (o .postmers) (rows post)
+holds (printGives s n) = eqb (printedRow (spelled (s .key)) (spelled (s .word))) n
 holds (shelfIs s xs) =
     let o = numbered pageOutcome s 0 (replicate (length xs) 9 ++ (9 ∷ [])) in
     eqb (o .refusal) 0 && eqb (o .written) (length xs) && same (o .room) (xs ++ (9 ∷ []))
@@ -91,9 +114,10 @@ table =
     -- W2: k=3, key AA, word GG: size 3; rows 0 and 1: antemers 1, 1; postmers 1, 2
     ∷ sizeIs (at 3 (A ∷ A ∷ []) (G ∷ G ∷ [])) 3
     ∷ rowsAre (at 3 (A ∷ A ∷ []) (G ∷ G ∷ [])) (1 ∷ 1 ∷ []) (1 ∷ 2 ∷ [])
-    -- W3: k=4, key TAA, word AAA: size 4; antemers 1, 0; postmers 1, 4
+    -- W3: k=4, key TAA, word AAA: size 4; antemers 1, 0; postmers 1, 4. Lemma 8 as printed gives 1
     ∷ sizeIs (at 4 (T ∷ A ∷ A ∷ []) (A ∷ A ∷ A ∷ [])) 4
     ∷ rowsAre (at 4 (T ∷ A ∷ A ∷ []) (A ∷ A ∷ A ∷ [])) (1 ∷ 0 ∷ []) (1 ∷ 4 ∷ [])
+    ∷ printGives (at 4 (T ∷ A ∷ A ∷ []) (A ∷ A ∷ A ∷ [])) 1
     -- W4: k=3, key AT, word TA: size 0
     ∷ sizeIs (at 3 (A ∷ T ∷ []) (T ∷ A ∷ [])) 0
     -- W5: k=3, key AT, word AA: the shelf is 0, 16, 32, 48

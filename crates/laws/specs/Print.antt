@@ -7,10 +7,11 @@ use mathlib.Core.List.{[], _∷_, map}
 use mathlib.Core.Path.{_≡_, refl}
 use lib.Dec.{leb, eqb}
 use lib.ListN.{length, getD}
-use Rattle.definitions.specs.Lists.{filter, tabulate, total}
-use Rattle.definitions.specs.Words.{Word, letters}
+use Rattle.definitions.specs.Lists.{filter, all, tabulate, total}
+use Rattle.definitions.specs.Words.{Word, letters, words}
 use Rattle.definitions.specs.Vigemins.{keyed}
 use Rattle.definitions.specs.Shelves.{size, antemers, postmer, postmers}
+use Rattle.definitions.specs.Cases.{printedRow}
 use Rattle.laws.specs.Counting.{count}
 use Rattle.laws.specs.Orders.{keyRanking}
 use Rattle.laws.specs.Prefixes.{sharing}
@@ -101,6 +102,12 @@ lemma6-wrong = (refl, refl, refl)
 -- key TAA, word AAA (case W3): Lemma 8 as printed gives 1 for P3(4); with restraints from m-mers that exist it gives 4, which is right
 pub lemma8-wrong : (lemma8Printed taa aaa 3 4 ≡ 1) × (prop3 taa aaa (exists aaa [] 4) 3 4 ≡ 4) × (P taa aaa 3 4 ≡ 4)
 lemma8-wrong = (refl, refl, refl)
+
+-- what the table of `definitions` has of Lemma 8 as printed is this rule, for Pm(m+1): under every key for every word of one and of two letters, and under TAA
+-- for every word of three
+pub lemma8-row : (all (λ m. all (λ key. all (λ w. eqb (printedRow key w) (lemma8Printed key w m (suc m))) (words m)) (words m)) (1 ∷ 2 ∷ []) ≡ true)
+    × (all (λ w. eqb (printedRow taa w) (lemma8Printed taa w 3 4)) (words 3) ≡ true)
+lemma8-row = (refl, refl)
 
 -- in that case the size for k = 4, by Proposition 1 over Lemma 8 as printed, is 1, where 4 is right
 pub lemma8-size-wrong : (antemers (keyed taa) aaa 1 * P taa aaa 3 3 + antemers (keyed taa) aaa 0 * lemma8Printed taa aaa 3 4 ≡ 1)
