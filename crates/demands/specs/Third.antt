@@ -16,17 +16,19 @@ use Rattle.definitions.specs.Lists.{over}
 use Rattle.definitions.specs.Words.{Word, Mer, val, word as wordOf}
 use Rattle.definitions.specs.Vigemins.{keyed, vigeminAt}
 use Rattle.definitions.specs.Shelves.{shelf, size, page}
-use Rattle.definitions.specs.Outcomes.{Paged, pageOutcome}
+use Rattle.definitions.specs.Outcomes.{Paged, pageOutcome, vigeminOutcome}
 use Rattle.laws.specs.Counting.{Increasing, increasing-once}
 use Rattle.laws.specs.Numbers.{four-pos, digits-below, digits-number, length-digits, number-digits-lt}
 use Rattle.laws.specs.Catalogue.{shelf-holds, shelf-increasing}
-use Rattle.laws.specs.Accepted.{ShelfAccepted}
+use Rattle.laws.specs.Accepted.{ShelfAccepted, VigeminAccepted}
 use Rattle.laws.specs.Listings.{Accepted, handed, roomOf, page-outcome, page-written, page-handed, handedOut, stoppedAt, RoomForOne, pages-served, pages-shelf, pages-reach, some-room}
 use Rattle.listers.specs.Answers.{Listed, listAnswer, listOutcome}
 use Rattle.demands.specs.Contracts.{Lent, Answer, Finds, Sizes, Pages, Lists}
 use Rattle.demands.specs.Meanings.{VigeminAt, Vigemin, vigemin-means, means-vigemin, vigemin-one}
 use Rattle.demands.specs.First.{list-refuses}
 use Rattle.demands.specs.Second.{fits, size-defined, vigemin-right}
+use Rattle.vigemins.proofs.vigemin.Kinds as vigemin-kinds
+use Rattle.sizes.proofs.size.Kinds as size-kinds
 use Rattle.shelves.proofs.page.Kinds as page-kinds
 
 -- ---- a shelf that is held by some numbers
@@ -143,7 +145,7 @@ module _ {k m key word : ℕ} (a : ShelfAccepted k m key word) where
         ap length whole ∙ length-map (shelf (keyed (wordOf m key)) k (wordOf m word)) val ∙ sym (size-defined a s g),
       )
 
-      -- and they hold a k-mer exactly if their word is what `vigemin` answers of it: over all words, every k-mer stands on exactly one shelf
+      -- and they hold a k-mer exactly if their word is what `vigemin` answers of it
       pub one-shelf : (kmer : ℕ) → kmer < 4 ^ k → (v : _) → Finds k m key kmer v → List·Memᴰ kmer (pagesOf κs k m key word calls) ↔ (word ≡ v .word)
       one-shelf kmer small v f = (there, back)
         where
@@ -195,3 +197,36 @@ module _ {k m key word : ℕ} (a : ShelfAccepted k m key word) where
         ap (λ (o : Paged). o .written) h ∙ page-written a start (now room) starts ∙ ap (λ (n : ℕ). min (length (now room)) (n - start)) (sym (size-defined a s g)),
         ap handed h ∙ page-handed a start (now room) starts,
       )
+
+-- ---- exactly one shelf
+
+-- calls of `page` that go through a whole shelf: in a row from place 0, until the size is reached
+pub record ThroughShelf (κs : Lfts 1) (k m key word : ℕ) (calls : List (Call κs)) : Type 0 where
+  pub inRow : InRow κs k m key word 0 calls
+  pub size : Answer size-kinds.r tt
+  pub sized : Sizes k m key word size
+  pub reached : stopOf κs k m key word 0 calls ≡ size .count
+
+-- a k-mer stands on exactly one shelf: there is a word of m letters whose pages hold it, and those of no other word do, whatever calls go through them
+pub record OnOneShelf (k m key kmer : ℕ) : Type 0 where
+  pub word : ℕ
+  pub small : word < 4 ^ m
+  pub there : (κs : Lfts 1) (calls : List (Call κs)) → ThroughShelf κs k m key word calls → List·Memᴰ kmer (pagesOf κs k m key word calls)
+  pub noOther : (other : ℕ) → other < 4 ^ m → (other ≡ word → ⊥) → (κs : Lfts 1) (calls : List (Call κs)) → ThroughShelf κs k m key other calls
+      → List·Memᴰ kmer (pagesOf κs k m key other calls) → ⊥
+
+-- over all words of a key, every k-mer stands on exactly one shelf
+pub exactly-one-shelf : {k m key kmer : ℕ} → VigeminAccepted k m key kmer → OnOneShelf k m key kmer
+exactly-one-shelf {k} {m} {key} {kmer} a =
+    let v : Answer vigemin-kinds.r tt = let o = vigeminOutcome k m key kmer in record { refusal = o .refusal; word = o .word; position = o .position } in
+    record {
+      word = v .word;
+      small = vigemin-right a v refl .1;
+      there = λ κs calls t. on (v .word) (vigemin-right a v refl .1) κs calls t .1 refl;
+      noOther = λ other small differs κs calls t i. differs (on other small κs calls t .0 i);
+    }
+  where
+    on : (word : ℕ) → word < 4 ^ m → (κs : Lfts 1) (calls : List (Call κs)) → ThroughShelf κs k m key word calls
+        → List·Memᴰ kmer (pagesOf κs k m key word calls) ↔ (word ≡ vigeminOutcome k m key kmer .word)
+    on word small κs calls t =
+        one-shelf (record { order = a .order; small = small }) κs calls (t .inRow) (t .size) (t .sized) (t .reached) kmer (a .small) _ refl
