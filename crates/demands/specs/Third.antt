@@ -16,7 +16,7 @@ use Rattle.definitions.specs.Lists.{over}
 use Rattle.definitions.specs.Words.{Word, Mer, val, word as wordOf}
 use Rattle.definitions.specs.Vigemins.{keyed, vigeminAt}
 use Rattle.definitions.specs.Shelves.{shelf, size, page}
-use Rattle.definitions.specs.Outcomes.{Paged, pageOutcome, vigeminOutcome}
+use Rattle.definitions.specs.Outcomes.{Paged, sizeOutcome, pageOutcome, vigeminOutcome}
 use Rattle.laws.specs.Counting.{Increasing, increasing-once}
 use Rattle.laws.specs.Numbers.{four-pos, digits-below, digits-number, length-digits, number-digits-lt}
 use Rattle.laws.specs.Catalogue.{shelf-holds, shelf-increasing}
@@ -206,6 +206,38 @@ pub record ThroughShelf (κs : Lfts 1) (k m key word : ℕ) (calls : List (Call 
   pub size : Answer size-kinds.r tt
   pub sized : Sizes k m key word size
   pub reached : stopOf κs k m key word 0 calls ≡ size .count
+
+module _ (κs : Lfts 1) (k m key word : ℕ) where
+  -- calls of `page` with some rooms, in a row from a start, each answered as its contract has it
+  abbrev pub callsOf : ℕ → List Lent → List (Call κs)
+  callsOf start [] = []
+  callsOf start (room ∷ lent) =
+      let o = pageOutcome k m key word start (now room) in
+      record { room = room; answer = record { refusal = o .refusal; written = o .written }; last = o .room } ∷ callsOf (start + o .written) lent
+
+  -- they stand in a row
+  in-row : (start : ℕ) (lent : List Lent) → RoomForOne (map now lent) → InRow κs k m key word start (callsOf start lent)
+  in-row start [] h = tt
+  in-row start (room ∷ lent) h = (refl, h .0, in-row (start + pageOutcome k m key word start (now room) .written) lent (h .1))
+
+  -- and have those rooms
+  rooms-of : (start : ℕ) (lent : List Lent) → rooms κs k m key word (callsOf start lent) ≡ map now lent
+  rooms-of start [] = refl
+  rooms-of start (room ∷ lent) =
+      ap (λ (l : List (List ℕ)). now room ∷ l) (rooms-of (start + pageOutcome k m key word start (now room) .written) lent)
+
+  -- there are such calls, whatever rooms are lent: each with room for at least one, and together for as many as there are k-mers
+  pub through-shelf : ShelfAccepted k m key word → (lent : List Lent) → RoomForOne (map now lent) → sizeOutcome k m key word .count ≤ roomOf (map now lent)
+      → ThroughShelf κs k m key word (callsOf 0 lent)
+  through-shelf a lent h e =
+      let o = sizeOutcome k m key word in
+      let s : Answer size-kinds.r tt = record { refusal = o .refusal; count = o .count } in
+      record {
+        inRow = in-row 0 lent h;
+        size = s;
+        sized = refl;
+        reached = pages-end a κs (callsOf 0 lent) (in-row 0 lent h) s refl (rw (rooms-of 0 lent) e);
+      }
 
 -- a k-mer stands on exactly one shelf: there is a word of m letters whose pages hold it, and those of no other word do, whatever calls go through them
 pub record OnOneShelf (k m key kmer : ℕ) : Type 0 where
