@@ -43,7 +43,7 @@ pub data Case : Type 0 where
   sizeIs : Setting → ℕ → Case
   -- the rows of the two columns; all rows after these hold 0
   rowsAre : Setting → List ℕ → List ℕ → Case
-  -- the postmers of row 1 as Lemma 8 is printed
+  -- the postmers of row 1 as Lemma 8 is printed, whatever k is
   printGives : Setting → ℕ → Case
   -- the numbers on the whole shelf
   shelfIs : Setting → List ℕ → Case
@@ -62,15 +62,16 @@ numbered f s = f (s .k) (length (s .key)) (val (spelled (s .key))) (val (spelled
 abbrev rows : List ℕ → List ℕ
 rows ns = ns ++ replicate (31 - length ns) 0
 
--- Lemma 8 of source 000 as printed, for the postmers of row 1. Each is w and one letter more, so they are as many as the letters that may follow w. Where
--- w's last l letters are its first l, an m-mer agrees with w so far, and the letter that follows must not rank below w's at place l, if that m-mer exists.
--- In row 1 the m-mer of place m − 1 alone exists. The print asks it of the letter, and not of the place: where the letter of place l has an m-mer that exists
+-- Lemma 8 of source 000 as printed, for row 1 of the postmers. Such a postmer is w and one letter b more, so the row is the number of letters that b may be.
+-- Where the last l letters of w are its first l, an m-mer begins with them and goes on with b: then b must not rank below w's letter at place l. This
+-- binds b only if that m-mer has m letters, and behind w itself only the one with l = m − 1 has them. The print does not ask for that l. It asks whether w's
+-- letter at place l is that at place m − 1: so a place with the same letter binds b too, though its own m-mer does not exist
 
 -- whether the last l letters of w are its first l
 abbrev tied : Word → ℕ → Bool
 tied w l = same (drop (length w - l) w) (take l w)
 
--- whether the print takes place l for a restraint
+-- whether the print lets place l bind b: place m − 1 binds it, and w has the same letter at l
 abbrev restrains : Word → ℕ → Bool
 restrains w l = tied w l && tied w (length w - 1) && eqb (getD w l 0) (getD w (length w - 1) 0)
 

@@ -38,6 +38,7 @@
 --   decimal         a number's digits; settings and entries, the lines that are printed
 --   readOutcome, cardOutcome
 -- Cases         W1 to W12 of document 01, proved under one claim; then cases of what these do not ask
+--   printedRow      Lemma 8 of source 000 as printed, for W3
 pub mod Lists
 pub mod Words
 pub mod Vigemins

@@ -239,7 +239,8 @@ module _ (κs : Lfts 1) (k m key word : ℕ) where
         reached = pages-end a κs (callsOf 0 lent) (in-row 0 lent h) s refl (rw (rooms-of 0 lent) e);
       }
 
--- a k-mer stands on exactly one shelf: there is a word of m letters whose pages hold it, and those of no other word do, whatever calls go through them
+-- a k-mer stands on exactly one shelf: there is a word of m letters whose pages hold it, and those of no other word do, whatever calls go through them.
+-- There are such calls: through-shelf
 pub record OnOneShelf (k m key kmer : ℕ) : Type 0 where
   pub word : ℕ
   pub small : word < 4 ^ m

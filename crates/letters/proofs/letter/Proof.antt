@@ -14,12 +14,15 @@ use Rattle.laws.specs.Numbers.{each-letter, letter-written}
 use Rattle.letters.proofs.letter.Statement.{statement}
 use Rattle.letters.proofs.letter.Tie as tie
 
--- the arithmetic of a letter's byte is the letter
-code-letter : (byte : ℕ) → isLetter byte ≡ true → byte * 3 / 8 % 4 ≡ letterOf byte
+-- the arithmetic
+abbrev code : ℕ → ℕ
+code byte = byte * 3 / 8 % 4
+
+-- of a letter's byte it is the letter
+code-letter : (byte : ℕ) → isLetter byte ≡ true → code byte ≡ letterOf byte
 code-letter byte e =
-    ap (λ (b : ℕ). b * 3 / 8 % 4) (sym (letter-written {c = byte} e))
-    ∙ eqb-true (getD capitals (letterOf byte) 0 * 3 / 8 % 4) (letterOf byte)
-    (each-letter (λ a. eqb (getD capitals a 0 * 3 / 8 % 4) a) refl (ltb-true (letterOf byte) 4 e))
+    ap code (sym (letter-written {c = byte} e))
+    ∙ eqb-true (code (getD capitals (letterOf byte) 0)) (letterOf byte) (each-letter (λ a. eqb (code (getD capitals a 0)) a) refl (ltb-true (letterOf byte) 4 e))
 
 -- a byte that is no letter is read as 4
 none-letter : (byte : ℕ) → isLetter byte ≡ false → 4 ≡ letterOf byte
