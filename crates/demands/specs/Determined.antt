@@ -19,13 +19,11 @@ use Rattle.powers.proofs.word_refusal.Reads as word-refusal-reads
 use Rattle.powers.proofs.sign.Kinds as sign-kinds
 use Rattle.powers.proofs.sign.Reads as sign-reads
 use Rattle.powers.proofs.Determined.{powers-takes-all, powers-determined, power-takes-all, power-determined, lesser-takes-all, lesser-determined, too-large-takes-all, too-large-determined, order-refusal-takes-all, order-refusal-determined, word-refusal-takes-all, word-refusal-determined, sign-takes-all, sign-determined}
-use Rattle.letters.proofs.is_letter.Kinds as is-letter-kinds
-use Rattle.letters.proofs.is_letter.Reads as is-letter-reads
 use Rattle.letters.proofs.letter.Kinds as letter-kinds
 use Rattle.letters.proofs.letter.Reads as letter-reads
 use Rattle.letters.proofs.first_bad.Kinds as first-bad-kinds
 use Rattle.letters.proofs.first_bad.Reads as first-bad-reads
-use Rattle.letters.proofs.Determined.{is-letter-takes-all, is-letter-determined, letter-takes-all, letter-determined, first-bad-takes-all, first-bad-determined}
+use Rattle.letters.proofs.Determined.{letter-takes-all, letter-determined, first-bad-takes-all, first-bad-determined}
 use Rattle.words.proofs.pack.Kinds as pack-kinds
 use Rattle.words.proofs.pack.Reads as pack-reads
 use Rattle.words.proofs.unpack.Kinds as unpack-kinds
@@ -85,7 +83,6 @@ pub record EveryInput : Type 0 where
   pub word-refusal : TakesAll word-refusal-kinds.ps word-refusal-reads.Asked
   pub sign : TakesAll sign-kinds.ps sign-reads.Asked
   -- letters
-  pub is-letter : TakesAll is-letter-kinds.ps is-letter-reads.Asked
   pub letter : TakesAll letter-kinds.ps letter-reads.Asked
   pub first-bad : TakesAll first-bad-kinds.ps first-bad-reads.Asked
   -- words
@@ -129,7 +126,6 @@ every-input =
       order-refusal = order-refusal-takes-all;
       word-refusal = word-refusal-takes-all;
       sign = sign-takes-all;
-      is-letter = is-letter-takes-all;
       letter = letter-takes-all;
       first-bad = first-bad-takes-all;
       pack = pack-takes-all;
@@ -162,7 +158,6 @@ pub record EveryContract : Type 0 where
   pub word-refusal : Determines word-refusal-kinds.ps word-refusal-kinds.r word-refusal-reads.Post
   pub sign : Determines sign-kinds.ps sign-kinds.r sign-reads.Post
   -- letters
-  pub is-letter : Determines is-letter-kinds.ps is-letter-kinds.r is-letter-reads.Post
   pub letter : Determines letter-kinds.ps letter-kinds.r letter-reads.Post
   pub first-bad : Determines first-bad-kinds.ps first-bad-kinds.r first-bad-reads.Post
   -- words
@@ -206,7 +201,6 @@ every-contract =
       order-refusal = order-refusal-determined;
       word-refusal = word-refusal-determined;
       sign = sign-determined;
-      is-letter = is-letter-determined;
       letter = letter-determined;
       first-bad = first-bad-determined;
       pack = pack-determined;

@@ -4,16 +4,8 @@ use mathlib.Core.Path.{refl, sym, _∙_}
 use Rattle.laws.specs.Contracts.{TakesAll, Determines}
 use Rattle.letters.proofs.first_bad.Kinds as first-bad-kinds
 use Rattle.letters.proofs.first_bad.Reads as first-bad-reads
-use Rattle.letters.proofs.is_letter.Kinds as is-letter-kinds
-use Rattle.letters.proofs.is_letter.Reads as is-letter-reads
 use Rattle.letters.proofs.letter.Kinds as letter-kinds
 use Rattle.letters.proofs.letter.Reads as letter-reads
-
-pub is-letter-takes-all : TakesAll is-letter-kinds.ps is-letter-reads.Asked
-is-letter-takes-all κs args = tt
-
-pub is-letter-determined : Determines is-letter-kinds.ps is-letter-kinds.r is-letter-reads.Post
-is-letter-determined κs args a b x y h g = (h ∙ sym g, refl)
 
 pub letter-takes-all : TakesAll letter-kinds.ps letter-reads.Asked
 letter-takes-all κs args = tt

@@ -5,7 +5,7 @@ ghost use Rattle.definitions.specs.Words.{letterOf, isLetter};
 ghost use Rattle.definitions.specs.Refusals.{firstBad};
 
 // Whether a byte is a letter.
-pub fn is_letter(byte: u8) -> bool
+fn is_letter(byte: u8) -> bool
     ensures { λ r. ⌜ r ≡ isLetter byte ⌝ }
 {
     (byte == b'A') | (byte == b'C') | (byte == b'G') | (byte == b'T')
