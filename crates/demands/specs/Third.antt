@@ -252,11 +252,12 @@ pub record OnOneShelf (k m key kmer : ℕ) : Type 0 where
 pub exactly-one-shelf : {k m key kmer : ℕ} → VigeminAccepted k m key kmer → OnOneShelf k m key kmer
 exactly-one-shelf {k} {m} {key} {kmer} a =
     let v : Answer vigemin-kinds.r tt = let o = vigeminOutcome k m key kmer in record { refusal = o .refusal; word = o .word; position = o .position } in
+    let small : v .word < 4 ^ m = vigemin-right a v refl .1 in
     record {
       word = v .word;
-      small = vigemin-right a v refl .1;
-      there = λ κs calls t. on (v .word) (vigemin-right a v refl .1) κs calls t .1 refl;
-      noOther = λ other small differs κs calls t i. differs (on other small κs calls t .0 i);
+      small = small;
+      there = λ κs calls t. on (v .word) small κs calls t .1 refl;
+      noOther = λ other fits differs κs calls t i. differs (on other fits κs calls t .0 i);
     }
   where
     on : (word : ℕ) → word < 4 ^ m → (κs : Lfts 1) (calls : List (Call κs)) → ThroughShelf κs k m key word calls

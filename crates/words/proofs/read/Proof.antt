@@ -8,13 +8,12 @@ use native.Mathlib.Nat.{pow-le-pow-right, lt-of-lt-of-le}
 use native.Mathlib.Numerals.{add-one}
 use native.Mathlib.Omega.{arith}
 use borrow.Author.Needs.{needs}
-use borrow.Author.Tests.{ltb-true}
 use lib.ListN.{length, getD, take, length-map}
 use lib.Seq.{length-take-le, take-length}
-use Rattle.definitions.specs.Words.{val, letterOf, isLetter, spelled}
+use Rattle.definitions.specs.Words.{val, letterOf, spelled}
 use Rattle.laws.specs.Accepted.{PackAccepted}
-use Rattle.laws.specs.Filters.{all-at, at-map}
-use Rattle.laws.specs.Numbers.{four-pos, number-lt, letters-take, spelled-letters}
+use Rattle.laws.specs.Filters.{at-map}
+use Rattle.laws.specs.Numbers.{four-pos, number-lt, letter-lt, letters-take, spelled-letters}
 use Rattle.laws.specs.Rolls.{number-front}
 use Rattle.words.proofs.read.Statement.{statement}
 use Rattle.words.proofs.read.Tie as tie
@@ -25,8 +24,8 @@ module _ (t : List ℕ) (a : PackAccepted t) (i : ℕ) (h : i < length t) where
   one-more = rw (← at-map letterOf t 0 0 i h) (sym (number-front 4 (spelled t) i (rw length-map h)))
 
   -- it is one of the four
-  letter-lt : letterOf (getD t i 0) < 4
-  letter-lt = ltb-true (letterOf (getD t i 0)) 4 (all-at isLetter t 0 i (a .allLetters) h)
+  read-lt : letterOf (getD t i 0) < 4
+  read-lt = rw (← at-map letterOf t 0 0 i h) (letter-lt (spelled t) i (spelled-letters t (a .allLetters)))
 
   -- before it fewer than 31 letters were read
   small : val (take i (spelled t)) < 4 ^ 30
@@ -58,7 +57,7 @@ add-word : tie.Need-add-word Inv-loop μ-loop
 add-word c =
     let at = c .before .before .before .loop in
     let start = c .before .before .before .before .before in
-    omega (arith, at .inv .1, small (start .args .text .now) (start .pre) (at .i) (c .before .before .loop-test .taken), letter-lt (start .args .text .now) (start .pre) (at .i) (c .before .before .loop-test .taken), c .letter .ensures)
+    omega (arith, at .inv .1, small (start .args .text .now) (start .pre) (at .i) (c .before .before .loop-test .taken), read-lt (start .args .text .now) (start .pre) (at .i) (c .before .before .loop-test .taken), c .letter .ensures)
 
 add-i : tie.Need-add-i Inv-loop μ-loop
 add-i c = search needs
