@@ -1,4 +1,5 @@
 // The shelf printer's whole answer, from the bytes that were read: the card of a shelf. Assumes nothing.
+#![tactic(auto)]
 ghost use Rattle.std.specs.Prelude.{◌≡◌, cond, [], ◌∷◌, ◌++◌, map, ◌≤◌, ◌<◌, ◌+◌, eqb, length};
 ghost use Rattle.definitions.specs.Words.{word as word_of, text as written};
 ghost use Rattle.definitions.specs.Cards.{ascii, decimal as decimalText, entries, settings, card_outcome};

@@ -1,6 +1,7 @@
 // Runs the cases of document 01 and compares: the shelf printer's inputs; then, through the operations, W1 to W12, what is named under "Also
 // run", and the refusals of each operation. The cases of a block are the lines of a file of data/. It writes a line for each case that differs,
 // and for each block how many of its cases hold. Cases with m = k stand in blocks of their own.
+#![tactic(auto)]
 mod columns;
 mod files;
 mod operations;

@@ -1,6 +1,7 @@
 // The census: for every k up to 8 and every m up to k, goes through every k-mer, finds its vigemin by a plain loop, and tallies the words. With that
 // it compares the operations: each vigemin, the size of every word, and some shelves by pages. It prints a line for each k; where something
 // differs it says what, and stops.
+#![tactic(auto)]
 ghost use Rattle.std.specs.Prelude.{◌+◌, ◌<◌, ◌≤◌, length};
 
 use libc::STDOUT_FILENO;

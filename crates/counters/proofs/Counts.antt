@@ -21,7 +21,7 @@ use Rattle.laws.specs.Counting.{count, count-le}
 use Rattle.laws.specs.Orders.{Ranking, key_ranking, keyed-law}
 use Rattle.laws.specs.Prefixes.{sharing, sharing_from, sharing-all, sharing-split, sharing-short, sharing-past}
 use Rattle.laws.specs.Rules.{Σ, banned, restrained, T, by_prefix}
-use Rattle.laws.specs.Antemers.{antemers-full, antemers-whole, antemers-banned, antemers-rule, antemers-none-shared}
+use Rattle.laws.proofs.Antemers.{antemers-full, antemers-whole, antemers-banned, antemers-rule, antemers-none-shared}
 use Rattle.counters.specs.Settings.{SetTo, Served}
 use Rattle.counters.proofs.Tests.{ties}
 

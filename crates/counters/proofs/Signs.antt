@@ -18,7 +18,7 @@ use Rattle.definitions.specs.Vigemins.{value}
 use Rattle.laws.specs.Numbers.{four-pos, four-pow, length_digits, digits-below, number_digits, take-digits, drop-digits, letters-take, letters-drop, letter-lt, each-letter, sum_lt, val-sum, letter-cut}
 use Rattle.laws.specs.Orders.{Ranking, OneToOne, ranked, key_ranking, keyed-ranked, keyed-one-to-one, rank_same}
 use Rattle.laws.specs.Prefixes.{goes_on-at}
-use Rattle.laws.specs.RulesHold.{sign-equal as equal-sign}
+use Rattle.laws.proofs.RulesHold.{sign-equal as equal-sign}
 use Rattle.laws.specs.Rules.{Sign, sign, is_less, is_equal, less, equal, greater, stretch, own, R, Σ}
 use Rattle.powers.specs.Powers.{power_outcome, power-four}
 use Rattle.powers.specs.Signs.{signed}

@@ -2,7 +2,7 @@
 -- link the counts are in the crate `laws`.
 --
 -- Lists         put, filter, all, first_place, tabulate, over, total
---   of the kit      length, take, drop, map; replicate n a is n times a; get_d l i d is entry i of l, or d beyond its end;
+--   of the kit      length, take, drop, map; replicate n a is n times a; get_or l i d is entry i of l, or d beyond its end;
 --                   cond t a b is a where t holds, else b; ltb, leb and eqb test <, ≤ and =; a - b is 0 where b is the larger
 --   for the checker abbrev, unfoldable and unfolding only say what it may compute; "Assumes nothing" says that there is no axiom
 -- Words         letters A, C, G, T are 0, 1, 2, 3; a word is the list of its letters

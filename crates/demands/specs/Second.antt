@@ -19,7 +19,7 @@ use Rattle.laws.specs.Minima.{length-windows, vigemin-mer}
 use Rattle.laws.specs.Scans.{length-scan, scan-inside, scan-least, scan-leftmost}
 use Rattle.laws.specs.Split.{column-at, column-above}
 use Rattle.laws.specs.Accepted.{PackAccepted, UnpackAccepted, ShelfAccepted, VigeminAccepted, CounterAccepted, ScanAccepted, accepted-word, accepted-counter, accepted-scan, size-refusal, size-count}
-use Rattle.laws.specs.RoundTrips.{pack-outcome, unpack-outcome, vigemin-outcome, counter-row, worksheet-size}
+use Rattle.laws.proofs.RoundTrips.{pack-outcome, unpack-outcome, vigemin-outcome, counter-row, worksheet-size}
 use Rattle.demands.specs.Promises.{Lent, Packs, Unpacks, Finds, Scans, ScansBytes, Works, Sizes, Counts, ForeignScans, ForeignSizes}
 use Rattle.demands.specs.Meanings.{mer_at, keyed_number, VigeminAt, Vigemin, Antemer, Postmer, Number, vigemin-means, means-vigemin, antemer-means, postmer-means, number-filter}
 use Rattle.demands.specs.First.{foreign-size-refuses}

@@ -48,14 +48,9 @@ pub mod Falls
 pub mod Bans
 pub mod Prefixes
 pub mod Rules
-pub mod RulesHold
-pub mod ByPrefix
-pub mod Antemers
-pub mod Postmers
 pub mod Print
 pub mod Refusals
 pub mod Accepted
-pub mod RoundTrips
 pub mod Listings
 pub mod Cards
 pub mod Promises

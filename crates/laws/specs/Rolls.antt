@@ -1,7 +1,7 @@
 -- Rolling words: the number of the m letters read last, as one letter after the other is read; and the scan of a sequence by the values of
 -- all its m-mers.
 -- Assumes nothing.
-use Rattle.std.specs.Prelude.{ℕ, suc, ◌+◌, ◌-◌, ◌*◌, ◌/◌, ◌%◌, ◌^◌, ◌≤◌, ◌<◌, List, [], ◌∷◌, map, ◌≡◌, length, get_or, take, drop}
+use Rattle.std.specs.Prelude.{ℕ, zero, suc, ◌+◌, ◌-◌, ◌*◌, ◌/◌, ◌%◌, ◌^◌, ◌≤◌, ◌<◌, List, [], ◌∷◌, map, ◌≡◌, length, get_or, take, drop}
 use Rattle.std.proofs.Common.{sym, ap, ◌∙◌, pow-suc, one-mul, mul-one, add-zero, div-add-mod', add-mul, mul_right_comm, mod-eq_of_lt, mul-div_cancel, arith, length-drop, take-suc, take-add}
 use Rattle.std.proofs.Math.Nat.{pow-zero, mul-add-mod_self_right, add-mul-mod_self_right, one-le-pow, mul-mod_left}
 use Rattle.std.proofs.Math.Arith.{digits_div, digits_mod, mod-mul}
@@ -45,6 +45,7 @@ mod-letter m v c h = rw (pow-suc, mod-mul (v * 4 + c) (one-le-pow m 4 four-pos) 
 
 -- the same with words kept times a side: where 4^m times the side is the end of the numbers, what goes out is dropped there
 pub roll-high : (m side v c : ℕ) → 0 < m → 0 < side → c < 4 → v * side * 4 % (4 ^ m * side) + c * side ≡ (v * 4 + c) % 4 ^ m * side
+roll-high zero side v c h k l = absurd (omega arith)
 roll-high (suc m) side v c h k l =
     let out : v * 4 % 4 ^ suc m ≡ v % 4 ^ m * 4 = rw (add-zero, add-zero) at (mod-letter m v 0 four-pos) in
     rw (mul_right_comm v side 4, mod-scale (v * 4) (4 ^ suc m) side (one-le-pow (suc m) 4 four-pos) k, out, ← add-mul, mod-letter m v c l)

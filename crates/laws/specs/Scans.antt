@@ -62,28 +62,6 @@ module _ (f : Form) (k m : ℕ) (s : Word) where
         let c : q < p + vigemin_at f m (take k (drop p s)) = rw (scan-at p h) at b in
         rw (scan-word, ← in_window q a (omega (arith, inside))) (vigemin-leftmost f m (take k (drop p s)) (q - p) (omega arith))
 
-  -- positions never go back
-  pub scan-forward : (p : ℕ) → m ≤ k → suc p + k ≤ length s → get_or (scan f k m s) p 0 ≤ get_or (scan f k m s) (suc p) 0
-  scan-forward p mk h = omega (arith, not_back)
-    where
-      now : ℕ
-      now = get_or (scan f k m s) p 0
-
-      next : ℕ
-      next = get_or (scan f k m s) (suc p) 0
-
-      not_back : ¬ (next < now)
-      not_back b =
-          let fits : p + k ≤ length s = omega arith in
-          let i = scan-inside p mk fits in
-          let j = scan-inside (suc p) mk h in
-          omega (arith, scan-leftmost p mk fits next (omega arith) b, scan-least (suc p) mk h now (omega arith) (omega arith))
-
-  -- nor over more windows
-  pub scan-onward : (p d : ℕ) → m ≤ k → p + d + k ≤ length s → get_or (scan f k m s) p 0 ≤ get_or (scan f k m s) (p + d) 0
-  scan-onward p zero mk h = rw add-zero (le_refl (get_or (scan f k m s) p 0))
-  scan-onward p (suc d) mk h = rw add-suc (le_trans (scan-onward p d mk (omega arith)) (scan-forward (p + d) mk (omega arith)))
-
 -- the scan of n letters from place p on is that stretch of the whole scan, counted from there
 pub scan-part : (f : Form) (k m : ℕ) (s : Word) (p n : ℕ) → p + n ≤ length s
     → map (λ q. p + q) (scan f k m (take n (drop p s))) ≡ take (suc n - k) (drop p (scan f k m s))

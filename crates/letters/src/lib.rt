@@ -1,4 +1,5 @@
 // Letters: which bytes are letters, and which letter each is. Assumes nothing.
+#![tactic(auto)]
 ghost use Rattle.std.specs.Prelude.{◌≡◌};
 ghost use Rattle.definitions.specs.Lists.{all};
 ghost use Rattle.definitions.specs.Words.{letter_of, is_letter_byte};

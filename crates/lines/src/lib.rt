@@ -1,4 +1,5 @@
 // The line that the shelf printer reads: k, a key and a word. Assumes nothing.
+#![tactic(auto)]
 ghost use Rattle.std.specs.Prelude.{◌≡◌, eqb};
 ghost use Rattle.definitions.specs.Lists.{first_place};
 ghost use Rattle.definitions.specs.Cards.{before as beforeFirst, behind as behind_first, read_outcome};

@@ -1,4 +1,5 @@
 // The shelf printer: reads standard input to its end, and writes the card of the shelf that its line names.
+#![tactic(auto)]
 ghost use Rattle.std.specs.Prelude.{◌≤◌, ◌≡◌, length};
 
 use libc::{STDIN_FILENO, STDOUT_FILENO};

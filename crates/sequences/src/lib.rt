@@ -1,4 +1,5 @@
 // Sequences: what reading a sequence refuses, and how many windows it has. Assumes nothing.
+#![tactic(auto)]
 ghost use Rattle.std.specs.Prelude.{◌≡◌, suc, ◌-◌, ◌≤◌};
 ghost use Rattle.sequences.specs.Answers.{examined, examine_outcome};
 

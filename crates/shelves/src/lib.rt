@@ -5,6 +5,7 @@
 // down from the empty beginning: a letter whose ways all lie before the start is passed over, under any other its k-mers are listed, and
 // behind the start nothing is passed over any more. So a page costs one descent and then a few steps for each further k-mer: where
 // every word completes a beginning, and where nothing but the rest of the word itself does, what follows is written at once.
+#![tactic(auto)]
 ghost use Rattle.std.specs.Prelude.{◌≡◌, cond, List, ℕ, suc, ◌+◌, ◌-◌, ◌*◌, ◌^◌, ◌≤◌, ◌<◌, eqb, length};
 ghost use Rattle.definitions.specs.Lists.{tabulate};
 ghost use Rattle.definitions.specs.Outcomes.{page_outcome};

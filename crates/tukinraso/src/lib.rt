@@ -1,5 +1,6 @@
 // The foreign forms: what Rust or C links, on plain numbers and slices of bytes. A slice passes as a pointer and a length. Assumes that both are
 // valid, a null pointer only with length 0, and that `seq` and `room` do not overlap (docs/OUTCOMES.md).
+#![tactic(auto)]
 ghost use Rattle.std.specs.Prelude.{◌≡◌, ◌<◌};
 ghost use Rattle.definitions.specs.Outcomes as outcomes;
 ghost use Rattle.tukinraso.specs.Answers.{foreign_scanned};

@@ -18,7 +18,7 @@ use Rattle.laws.specs.Bans.{never}
 use Rattle.laws.specs.Rooms.{Written}
 use Rattle.powers.specs.Powers.{PowersAre}
 use Rattle.worksheets.specs.Columns.{UpTo, led_to, AllowedBy, way_of, sum_of, RowReady, FreeReady, Counts, Countable, CountedBy, Filled, Turn, TurnReady, TurnDone, Turned}
-use Rattle.laws.specs.RulesHold.{total-letters}
+use Rattle.laws.proofs.RulesHold.{total-letters}
 use Rattle.worksheets.proofs.Rows.{up_to-more, up_to-none}
 
 module _ {W : ℕ → ℕ → ℕ} {m rows start follow live : ℕ} {first next ban : List ℕ} (q : Counts W m rows start follow live first next ban) where

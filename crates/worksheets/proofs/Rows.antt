@@ -16,7 +16,7 @@ use Rattle.definitions.specs.Shelves.{row}
 use Rattle.laws.specs.Filters.{length-tabulate, tabulate-at}
 use Rattle.laws.specs.Rooms.{Written, set_holds}
 use Rattle.worksheets.specs.Columns.{UpTo, way_of, sum_of, RowReady, WayReady, SumReady, ColumnIs}
-use Rattle.laws.specs.RulesHold.{total-letters}
+use Rattle.laws.proofs.RulesHold.{total-letters}
 
 -- ---- a row of ways
 

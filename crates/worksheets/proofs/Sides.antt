@@ -22,7 +22,7 @@ use Rattle.laws.specs.Tables.{antemer_ok, antemer_end, antemer_ways, postmer_ok,
 use Rattle.laws.specs.Bans.{never, ban, ban-le, ban-most, low_by, lasts, antemer-row, postmer-row, word-allowed}
 use Rattle.states.specs.Tables.{LettersOf, next-entry, ban-entry}
 use Rattle.worksheets.specs.Columns.{BansOf, MovesOf, UpTo, ReachIs, EndsAre, LastsIs, end_ways, Counts, AntemersAre, PostmersAre}
-use Rattle.laws.specs.RulesHold.{total-letters}
+use Rattle.laws.proofs.RulesHold.{total-letters}
 use Rattle.worksheets.proofs.Laws.{moves-bans, own-later}
 use Rattle.worksheets.proofs.Rows.{up_to-column}
 

@@ -12,20 +12,20 @@ use Rattle.powers.specs.Powers.{power-four}
 use Rattle.powers.proofs.too_large.Statement.{statement}
 use Rattle.powers.proofs.too_large.Tie as tie
 
-returns : tie.Need-returns
+returns : tie.Need-returns-then-n-gt31
 returns c =
     let n = c.before.args.n in
-    let large : 4 ^ 32 ≤ 4 ^ n = pow-le-pow_right four-pos c.if1.true in
+    let large : 4 ^ 32 ≤ 4 ^ n = pow-le-pow_right four-pos c.if-n-gt31.true in
     sym (lt-leb (4 ^ n) c.before.args.word (omega (arith, c.before.ranges.word)))
 
 power-requires : tie.Need-power-requires
 power-requires c κs = search rules
 
-returns-2 : tie.Need-returns-2
+returns-2 : tie.Need-returns
 returns-2 c =
     let n = c.before.before.args.n in
-    let four : c.power.result ≡ 4 ^ n = c.power.ensures ∙ power-four n c.before.if1.false in
+    let four : c.power.result ≡ 4 ^ n = c.power.ensures ∙ power-four n c.before.if-n-gt31.false in
     ap (λ (p : ℕ). leb p c.before.before.args.word) four
 
-pub too-large-spec : {M : Type 1} → statement M
-too-large-spec = tie.close (tie.spec returns power-requires returns-2)
+pub too_large_spec : {M : Type 1} → statement M
+too_large_spec = tie.close (tie.spec returns power-requires returns-2)

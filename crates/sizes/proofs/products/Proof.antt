@@ -12,7 +12,8 @@ use borrow.Author.Tests.{leb-true, leb-false}
 use lib.Dec.{leb}
 use lib.ListN.{get_or}
 use Rattle.definitions.specs.Lists.{tabulate, total}
-use Rattle.laws.specs.Split.{product_sum, total-last}
+use Rattle.laws.specs.Split.{product_sum}
+use Rattle.laws.proofs.Split.{total-last}
 use Rattle.sizes.proofs.products.Statement.{statement}
 use Rattle.sizes.proofs.products.Tie as tie
 

@@ -19,8 +19,8 @@ use Rattle.laws.specs.Acceptors.{below_hit}
 use Rattle.laws.specs.Tables.{through-fine, antemer_ok, antemer_end, antemer_ways, antemer-accepted}
 use Rattle.laws.specs.Prefixes.{shared, sharing, sharing_from, shared-le, shared-from, sharing-split, sharing-short, sharing-whole, completions}
 use Rattle.laws.specs.Rules.{Σ, banned, by_prefix, exists}
-use Rattle.laws.specs.RulesHold.{uncaught, fine-banned}
-use Rattle.laws.specs.ByPrefix.{banned-cong, sharing_from-cong, by_prefix-free, accepted-rule}
+use Rattle.laws.proofs.RulesHold.{uncaught, fine-banned}
+use Rattle.laws.proofs.ByPrefix.{banned-cong, sharing_from-cong, by_prefix-free, accepted-rule}
 
 -- no antemer shares all m letters with w
 pub antemers-full : (f : Form) (w : Word) (n : ℕ) → 0 < length w → sharing w (antemer f w) (length w) n ≡ 0

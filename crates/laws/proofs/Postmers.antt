@@ -19,7 +19,7 @@ use Rattle.laws.specs.States.{matches, first}
 use Rattle.laws.specs.Tables.{postmer-accepted}
 use Rattle.laws.specs.Prefixes.{sharing, sharing_from, goes_on, goes_on-at, stops, shared-from, shared-is, sharing-split, sharing-past, sharing-whole}
 use Rattle.laws.specs.Rules.{Σ, by_prefix}
-use Rattle.laws.specs.ByPrefix.{total-chosen, by_prefix-free, accepted-rule}
+use Rattle.laws.proofs.ByPrefix.{total-chosen, by_prefix-free, accepted-rule}
 
 -- a test that does not look at the word
 count-constant : (t : Bool) (n : ℕ) → count (λ z. t) n ≡ cond t (4 ^ n) 0

@@ -16,7 +16,8 @@ use Rattle.laws.specs.Numbers.{four-pos, digits-below, length_digits, number-dig
 use Rattle.laws.specs.Minima.{length-stretch, all-stretch, map-stretch, length-windows}
 use Rattle.laws.specs.Filters.{tabulate-agree}
 use Rattle.laws.specs.Counting.{count-le}
-use Rattle.laws.specs.Split.{product_sum, column-at, keyed-size-sum}
+use Rattle.laws.specs.Split.{product_sum, column-at}
+use Rattle.laws.proofs.Split.{keyed-size-sum}
 use Rattle.laws.specs.Scans.{length-scan, scan-at, scan-inside, scan-word}
 use Rattle.laws.specs.Accepted.{ShelfAccepted, word-accepted, PackAccepted, pack-accepted, accepted-pack, UnpackAccepted, unpack-accepted, accepted-unpack, VigeminAccepted, accepted-word, counter-accepted, accepted-counter, counter_answer-refusal, ScanAccepted, scan-accepted, accepted-scan, pack-refusal, unpack_answer-refusal, scan_answer-refusal}
 

@@ -13,7 +13,7 @@ use Rattle.laws.specs.States.{matches, first}
 use Rattle.laws.specs.Places.{any_to-cong, any_to-none, first_to-none, first_to-cong}
 use Rattle.laws.specs.Prefixes.{shared, sharing, sharing_from, sharing-all}
 use Rattle.laws.specs.Rules.{is_less, is_equal, R, Σ, own, banned, restrained, T, by_prefix, exists}
-use Rattle.laws.specs.RulesHold.{uncaught, sharing-rule}
+use Rattle.laws.proofs.RulesHold.{uncaught, sharing-rule}
 
 -- one number for each entry that a test chooses
 pub total-chosen : (p : ℕ → Bool) (c : ℕ) (l : List ℕ) → total (map (λ b. cond (p b) c 0) l) ≡ length (filter p l) * c
