@@ -110,7 +110,7 @@ fn head(k: u64, m: u64, key: u64, word: u64, size: u64, room: &mut [u8]) -> usiz
 // ---- the answer
 
 // What was written: the refusal, and the length of the text.
-#[derive(Drop)]
+#[derive(Clone, Copy)]
 struct Told {
     refusal: u64,
     length: usize,
@@ -159,7 +159,7 @@ fn answer(input: &[u8], room: &mut [u8]) -> Told
 }
 
 // What the printer prints: the refusal, the length of the text, and the text, with zeros behind it.
-#[derive(Drop)]
+#[derive(Clone, Copy)]
 pub struct Printed {
     pub refusal: u64,
     pub length: usize,

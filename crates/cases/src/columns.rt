@@ -9,7 +9,7 @@ pub type Numbers = [u64; 18];
 
 // What is asked: k, m, the key, and a word or a k-mer; the start of a page; and how many entries of room are lent. Then what must come of it: the
 // refusal, and two numbers beside it.
-#[derive(Drop)]
+#[derive(Clone, Copy)]
 pub struct Case {
     pub k: u64,
     pub m: u64,

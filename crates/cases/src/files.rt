@@ -2,7 +2,7 @@
 ghost use Rattle.io.specs.Counts.{IsPrefixLen};
 
 // Whether a file was read whole, and how many bytes were read.
-#[derive(Drop)]
+#[derive(Clone, Copy)]
 pub struct Loaded {
     pub whole: bool,
     pub length: usize,

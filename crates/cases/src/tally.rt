@@ -1,7 +1,7 @@
 // How many cases of a block were run, and how many of them held.
 use libc::STDOUT_FILENO;
 
-#[derive(Drop)]
+#[derive(Clone, Copy)]
 pub struct Tally {
     held: u64,
     run: u64,

@@ -30,7 +30,7 @@ fn power(n: u64) -> u64
 }
 
 // The settings, but for the word.
-#[derive(Drop)]
+#[derive(Clone, Copy)]
 struct Settings {
     k: u64,
     m: u64,
@@ -139,7 +139,7 @@ fn print_line(k: u64, keys: u64, vigemins: u64, sizes: u64, pages: u64) {
 // ---- vigemins
 
 // A word and its position.
-#[derive(Drop)]
+#[derive(Clone, Copy)]
 struct Mer {
     word: u64,
     position: u64,

@@ -18,7 +18,7 @@ ghost use Rattle.counters.specs.Settings.{LetterSign, is_below_at, SetTo, Served
 ghost use Rattle.counters.specs.Answers.{counted};
 
 // What antemers are counted for: a key and a word of m letters.
-#[derive(Drop)]
+#[derive(Clone, Copy)]
 struct Setting {
     m: u64,
     key: u64,
@@ -201,7 +201,7 @@ fn one_prefix(s: Setting, i: u64, n: u64) -> u64
 }
 
 // What the plain counter answers: the refusal, the number of antemers.
-#[derive(Drop)]
+#[derive(Clone, Copy)]
 pub struct Counted {
     pub refusal: u64,
     pub count: u64,

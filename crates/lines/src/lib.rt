@@ -72,7 +72,7 @@ fn number(text: &[u8]) -> u64
 }
 
 // What reading a line answers: the refusal, and what it asks for: k, m, and the numbers of the key and the word.
-#[derive(Drop)]
+#[derive(Clone, Copy)]
 pub struct Line {
     pub refusal: u64,
     pub k: u64,

@@ -22,7 +22,7 @@ fn list_pages(k: u64, m: u64, key: u64, word: u64, each: u64, size: u64, room: &
 }
 
 // What listing answers: the refusal, how many k-mers it wrote.
-#[derive(Drop)]
+#[derive(Clone, Copy)]
 pub struct Listed {
     pub refusal: u64,
     pub written: u64,

@@ -44,7 +44,7 @@ fn suffixes(width: u64, left: &mut [u64; 32], right: &mut [u64; 32])
 // What a scan is set to: k, m and the key; how many m-mers a window has; and the side of a stamp, which is 4^(32 - m). A stamp is a value times
 // the side plus a place below the side: the lesser of two stamps is that of the lesser value and, of equals, of the leftmost. An m-mer is kept as its
 // value times the side, that is keyed and with its first letter in the highest bits; `high` is the key there.
-#[derive(Drop)]
+#[derive(Clone, Copy)]
 struct Settings {
     k: u64,
     m: u64,
@@ -136,7 +136,7 @@ fn fill(s: Settings, table: &[u64; 85], seq: &[u8], from: u64, ring: &mut [u64; 
 }
 
 // What a run of windows has read up to a window: the m-mer read last, and the least stamp of the m-mers read after the window's block.
-#[derive(Drop)]
+#[derive(Clone, Copy)]
 struct Run {
     word: u64,
     least: u64,
@@ -145,7 +145,7 @@ struct Run {
 // Two runs of windows that are read side by side, so that one goes on while the other waits for its last minimum. The m-mers of each go by blocks of a
 // window's width. The left run's block starts at `block`, the right run's at `block` plus the window that the right run begins with, and both windows
 // begin `at` behind the start of theirs.
-#[derive(Drop)]
+#[derive(Clone, Copy)]
 struct Runs {
     block: u64,
     at: u64,
@@ -314,7 +314,7 @@ fn write_positions(s: Settings, seq: &[u8], windows: u64, room: &mut [u32])
 }
 
 // What a scan answers: the refusal, the place of a bad letter, the number of windows.
-#[derive(Drop)]
+#[derive(Clone, Copy)]
 pub struct Scanned {
     pub refusal: u64,
     pub place: u64,

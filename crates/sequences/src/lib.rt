@@ -12,7 +12,7 @@ fn window_count(n: u64, k: u64) -> u64
 }
 
 // What examining a sequence answers: the refusal, the place of a bad letter, the number of windows.
-#[derive(Drop)]
+#[derive(Clone, Copy)]
 pub struct Examined {
     pub refusal: u64,
     pub place: u64,

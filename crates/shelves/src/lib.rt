@@ -131,7 +131,7 @@ fn run(first: u64, count: u64, room: &mut [u64]) -> usize
 }
 
 // A beginning: how many letters are left, its state, the number of its letters.
-#[derive(Drop)]
+#[derive(Clone, Copy)]
 struct Beginning {
     left: u64,
     state: u64,
@@ -139,7 +139,7 @@ struct Beginning {
 }
 
 // Numbers that follow one another: the first, how many.
-#[derive(Drop)]
+#[derive(Clone, Copy)]
 struct Stretch {
     first: u64,
     count: u64,
@@ -237,7 +237,7 @@ fn fill(
 }
 
 // What a page answers: the refusal, how many k-mers it wrote.
-#[derive(Drop)]
+#[derive(Clone, Copy)]
 pub struct Paged {
     pub refusal: u64,
     pub written: u64,

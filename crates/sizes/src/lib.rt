@@ -22,7 +22,7 @@ fn products(n: u64, sheet: worksheets::Sheet) -> u64
 }
 
 // What the size answers: the refusal, the number of k-mers.
-#[derive(Drop)]
+#[derive(Clone, Copy)]
 pub struct Counted {
     pub refusal: u64,
     pub count: u64,

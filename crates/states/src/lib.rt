@@ -23,7 +23,7 @@ ghost use Rattle.states.specs.Answers.{four_of, prepare_outcome, prepared};
 const NEVER: u8 = 64;
 
 // A row of a table: one byte for each letter.
-#[derive(Drop)]
+#[derive(Clone, Copy)]
 struct Four {
     a: u8,
     c: u8,
@@ -58,7 +58,7 @@ fn put(row: Four, state: u64, table: &mut [u8; 128])
 }
 
 // The states of a word: the special alphabets, the next states and the bans.
-#[derive(Drop)]
+#[derive(Clone, Copy)]
 pub struct States {
     pub own: [u8; 32],
     pub marks: [u8; 128],
@@ -145,7 +145,7 @@ fn link_states(m: u64, mut s: States) -> States
 }
 
 // What preparing answers: the refusal, the states.
-#[derive(Drop)]
+#[derive(Clone, Copy)]
 pub struct Prepared {
     pub refusal: u64,
     pub states: States,

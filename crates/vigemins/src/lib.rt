@@ -16,7 +16,7 @@ pub fn value(mer: u64, key: u64) -> u64
 }
 
 // What the vigemin answers: the refusal, the word and its position.
-#[derive(Drop)]
+#[derive(Clone, Copy)]
 pub struct Found {
     pub refusal: u64,
     pub word: u64,

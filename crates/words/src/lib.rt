@@ -22,7 +22,7 @@ fn read(text: &[u8]) -> u64
 }
 
 // What packing answers: the refusal, the place of a bad letter, the word.
-#[derive(Drop)]
+#[derive(Clone, Copy)]
 pub struct Packed {
     pub refusal: u64,
     pub place: u64,
@@ -82,7 +82,7 @@ fn write(word: u64, n: u64, room: &mut [u8])
 }
 
 // What unpacking answers: the refusal, how many letters it wrote at the front of the room.
-#[derive(Drop)]
+#[derive(Clone, Copy)]
 pub struct Unpacked {
     pub refusal: u64,
     pub written: u64,

@@ -187,7 +187,7 @@ fn free_row(free: u64, r: u64, power: u64, ways: &mut [u64; 64])
 }
 
 // What is counted: the state whose ways the rows hold, how many letters follow the words that are counted, and below which state there are ways.
-#[derive(Drop)]
+#[derive(Clone, Copy)]
 struct Side {
     start: u64,
     follow: u64,
@@ -301,7 +301,7 @@ fn postmers<'s>(
 }
 
 // The two columns of a worksheet.
-#[derive(Drop)]
+#[derive(Clone, Copy)]
 pub struct Sheet {
     pub antemers: [u64; 31],
     pub postmers: [u64; 31],
@@ -320,7 +320,7 @@ fn sheet_of(k: u64, m: u64, s: states::States) -> Sheet
 }
 
 // What the worksheet answers: the refusal, the two columns.
-#[derive(Drop)]
+#[derive(Clone, Copy)]
 pub struct Worked {
     pub refusal: u64,
     pub sheet: Sheet,
