@@ -169,8 +169,8 @@ pub struct Printed {
 // The card of a shelf, from the input that names it: the settings and the size, then place and k-mer for the first 16, or for all if there are
 // fewer; or the line of a refusal. Refusals 10, then 1 to 4. That the text is a part of the array is told besides, for whoever cuts it out.
 pub fn card(input: &[u8]) -> Printed
-    ensures result_value { printed result ≡ card_outcome input.now }
-    ensures length_in_bounds { result.length ≤ length result.text }
+    ensures outcome { printed result ≡ card_outcome input.now }
+    ensures inside { result.length ≤ length result.text }
 {
     let mut text: [u8; 664] = [0; 664];
     let answer = answer(input, &mut text);

@@ -29,7 +29,7 @@ struct Setting {
 // which are equal.
 fn compared(s: Setting, i: u64, j: u64) -> u8
     requires set_to { SetTo s.m s.key s.word }
-    requires j_nonzero { (0 < j) × (j ≤ i + 1) × (i ≤ s.m) }
+    requires in_range { (0 < j) × (j ≤ i + 1) × (i ≤ s.m) }
     ensures { result ≡ signed (R (key_ranking (word_of s.m s.key)) (word_of s.m s.word) i j) }
 {
     let length = i + 1 - j;
@@ -43,7 +43,7 @@ fn compared(s: Setting, i: u64, j: u64) -> u8
 // The sign of a letter against ai, both combined with ci: above where it lies in the special alphabet Σi, equal where it is ai.
 fn letter_sign(s: Setting, i: u64, letter: u64) -> u8
     requires set_to { SetTo s.m s.key s.word }
-    requires i_nonzero { (0 < i) × (i ≤ s.m) × (letter < 4) }
+    requires in_range { (0 < i) × (i ≤ s.m) × (letter < 4) }
     ensures { LetterSign (key_ranking (word_of s.m s.key)) (word_of s.m s.word) i letter result }
 {
     let shift = 2 * (s.m - i);
@@ -64,7 +64,7 @@ fn first_alphabet(s: Setting) -> u64
 // Whether some R(i,j) with 2 ≤ j ≤ i is below.
 fn below_at(s: Setting, i: u64) -> bool
     requires set_to { SetTo s.m s.key s.word }
-    requires i_nonzero { (0 < i) × (i ≤ s.m) }
+    requires in_range { (0 < i) × (i ≤ s.m) }
     ensures { result ≡ is_below_at (key_ranking (word_of s.m s.key)) (word_of s.m s.word) (i - 1) }
 {
     let mut j: u64 = 2;
@@ -80,7 +80,7 @@ fn below_at(s: Setting, i: u64) -> bool
 // Whether i shared letters ban an antemer: some R(i',j) with 2 ≤ j ≤ i' ≤ i is below.
 fn banned(s: Setting, i: u64) -> bool
     requires set_to { SetTo s.m s.key s.word }
-    requires i_le_m { i ≤ s.m }
+    requires in_range { i ≤ s.m }
     ensures { result ≡ bannedBy (key_ranking (word_of s.m s.key)) (word_of s.m s.word) (λ j. true) i }
 {
     let mut shared: u64 = 1;
@@ -97,7 +97,7 @@ fn banned(s: Setting, i: u64) -> bool
 // a(i-j+2). With j = i + 1 that is Σ1 and a1.
 fn may_follow(s: Setting, i: u64, letter: u64) -> bool
     requires set_to { SetTo s.m s.key s.word }
-    requires i_lt_m { (i < s.m) × (letter < 4) }
+    requires in_range { (i < s.m) × (letter < 4) }
     ensures { result ≡ mayFollow (key_ranking (word_of s.m s.key)) (word_of s.m s.word) (λ j. true) i letter }
 {
     if letter_sign(s, i + 1, letter) != powers::ABOVE {
@@ -118,7 +118,7 @@ fn may_follow(s: Setting, i: u64, letter: u64) -> bool
 // T: the least j from 2 to i + 1 with R(i,j) equal and a(i-j+2) the letter, so that the longest prefix is shared again; i + 2 where there is none.
 fn least_tied(s: Setting, i: u64, letter: u64) -> u64
     requires set_to { SetTo s.m s.key s.word }
-    requires i_lt_m { (i < s.m) × (letter < 4) }
+    requires in_range { (i < s.m) × (letter < 4) }
     ensures { result ≡ T (key_ranking (word_of s.m s.key)) (word_of s.m s.word) (λ j. true) i letter }
 {
     let mut j: u64 = 2;
@@ -136,7 +136,7 @@ fn least_tied(s: Setting, i: u64, letter: u64) -> u64
 // One where the first i letters of the word are an antemer, tested directly, else none.
 fn whole(s: Setting, i: u64) -> u64
     requires served { Served s.m s.key s.word i }
-    requires i_le_m { i ≤ s.m }
+    requires in_range { i ≤ s.m }
     ensures { result ≡ cond (antemer (keyed (word_of s.m s.key)) (word_of s.m s.word) (take i (word_of s.m s.word))) 1 0 }
 {
     let side = powers::power(s.m);
@@ -173,7 +173,7 @@ fn all_prefixes(s: Setting, i: u64, n: u64) -> u64
 #[cycle(all_prefixes_one_prefix)]
 fn one_prefix(s: Setting, i: u64, n: u64) -> u64
     requires served { Served s.m s.key s.word n }
-    requires i_le_m { (i ≤ s.m) × (i ≤ n) }
+    requires in_range { (i ≤ s.m) × (i ≤ n) }
     ensures { result ≡ sharing (word_of s.m s.word) (antemer (keyed (word_of s.m s.key)) (word_of s.m s.word)) i n }
 {
     if i == s.m {

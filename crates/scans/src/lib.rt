@@ -26,8 +26,8 @@ const T: usize = 84;
 // loop, so that one goes on while the other waits for its last minimum.
 fn suffixes(width: u64, left: &mut [u64; 32], right: &mut [u64; 32])
     requires { Entries width left.old × Entries width right.old }
-    ensures suffixes { Suffixes width left.old left.new }
-    ensures suffixes_2 { Suffixes width right.old right.new }
+    ensures left { Suffixes width left.old left.new }
+    ensures right { Suffixes width right.old right.new }
 {
     let mut i = width - 1;
     let mut least = left[i as usize];
@@ -163,11 +163,11 @@ fn begin(
     right: &mut [u64; 32],
 ) -> Runs
     requires readable { Readable s seq.now × (from + s.k ≤ length seq.now) × (length table.old ≡ 85) }
-    requires filled { Filled s.side s.width (values s.m s.key (spelled seq.now)) 0 0 left.old }
-    requires filled_2 { Filled s.side s.width (values s.m s.key (spelled seq.now)) from 0 right.old }
+    requires left { Filled s.side s.width (values s.m s.key (spelled seq.now)) 0 0 left.old }
+    requires right { Filled s.side s.width (values s.m s.key (spelled seq.now)) from 0 right.old }
     ensures tabled { Tabled s table.new }
     ensures read_both { ReadBoth s seq.now from result left.new right.new }
-    ensures at_value { result.block + result.at ≡ 0 }
+    ensures at_start { result.block + result.at ≡ 0 }
 {
     set_table(s, table);
     let word = fill(s, table, seq, 0, left);
@@ -252,9 +252,9 @@ fn next_windows(
 ) -> Runs
     requires tabled { Tabled s table.now × Readable s seq.now }
     requires read_both { ReadBoth s seq.now from r left.old right.old }
-    requires place_value { (place ≡ r.block + r.at + s.k) × (place + from < length seq.now) }
-    ensures read_both_2 { ReadBoth s seq.now from result left.new right.new }
-    ensures at_value { result.block + result.at ≡ suc (r.block + r.at) }
+    requires next_place { (place ≡ r.block + r.at + s.k) × (place + from < length seq.now) }
+    ensures read { ReadBoth s seq.now from result left.new right.new }
+    ensures one_on { result.block + result.at ≡ suc (r.block + r.at) }
 {
     let t = turned(s, r, left, right);
     let near = t.left;

@@ -104,7 +104,7 @@ fn ways_end(ways: &mut [u64; 2048])
 // Writes the table of ways, for up to k letters left.
 fn ways_table(k: u64, m: u64, moves: &[u8; 256], ban: &[u8; 128], ways: &mut [u64; 2048])
     requires tables { Tables m moves.now ban.now }
-    requires k_bound { (k ≤ 31) × (length ways.old ≡ 2048) }
+    requires in_range { (k ≤ 31) × (length ways.old ≡ 2048) }
     ensures { WaysTo m (suc k) moves.now ban.now ways.new }
 {
     ways_end(ways);
@@ -254,7 +254,7 @@ fn page_by(
     room: &mut [u64],
 ) -> Paged
     requires known { Known (λ ρ w. ShelfOf ρ w m word next.now ban.now) }
-    requires m_le_k { (m ≤ k) × (k ≤ 31) }
+    requires in_range { (m ≤ k) × (k ≤ 31) }
     ensures { All (λ ρ w. ShelfOf ρ w m word next.now ban.now) (λ ρ w. PageIs ρ w k start room.old room.new result) }
 {
     let moves = moves_of(m, next);

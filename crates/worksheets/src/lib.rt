@@ -37,7 +37,7 @@ fn own_entry(i: u64, p: u64, own: &[u8; 32], table: &[u8; 128]) -> u64
 // Whether the m-mer that has the first i letters of w and then w's first letters again comes out below w, or is w.
 fn caught(m: u64, i: u64, own: &[u8; 32], marks: &[u8; 128]) -> bool
     requires known { Known (λ ρ w. AlphabetsOf ρ w m own.now marks.now) }
-    requires i_le_m { i ≤ m }
+    requires in_range { i ≤ m }
     ensures { All (λ ρ w. AlphabetsOf ρ w m own.now marks.now) (λ ρ w. CaughtIs ρ w i result) }
 {
     let mut j: u64 = 0;
@@ -54,7 +54,7 @@ fn caught(m: u64, i: u64, own: &[u8; 32], marks: &[u8; 128]) -> bool
 // The ways to end an antemer at state i, 1 or 0, by those at the state that i falls to.
 fn end_at(fallen: u64, m: u64, i: u64, own: &[u8; 32], marks: &[u8; 128]) -> u64
     requires known { Known (λ ρ w. AlphabetsOf ρ w m own.now marks.now) }
-    requires i_le_m { i ≤ m }
+    requires in_range { i ≤ m }
     ensures { All (λ ρ w. AlphabetsOf ρ w m own.now marks.now) (λ ρ w. EndIs ρ w i fallen result) }
 {
     if fallen == 0 {
@@ -84,7 +84,7 @@ fn reach(m: u64, own: &[u8; 32], ban: &[u8; 128]) -> u64
 // For each state below `live` the ways to end an antemer there, 1 or 0; the others have none.
 fn ends(m: u64, live: u64, own: &[u8; 32], marks: &[u8; 128], next: &[u8; 128]) -> [u64; 64]
     requires known { Known (λ ρ w. NextsOf ρ w m own.now marks.now next.now) }
-    requires live_nonzero { (0 < live) × (live ≤ m) }
+    requires in_range { (0 < live) × (live ≤ m) }
     ensures { All (λ ρ w. NextsOf ρ w m own.now marks.now next.now) (λ ρ w. EndsAre ρ w live result) }
 {
     let mut ends: [u64; 64] = [0; 64];
@@ -259,7 +259,7 @@ fn antemers<'s>(
     powers: &[u64; 32],
 ) -> [u64; 31]
     requires known { Known (λ ρ w. StatesOf ρ w m own.now marks.now next.now ban.now) }
-    requires m_le_k { (m ≤ k) × (k ≤ 31) }
+    requires in_range { (m ≤ k) × (k ≤ 31) }
     requires powers_are { PowersAre powers.now }
     ensures { All (λ ρ w. StatesOf ρ w m own.now marks.now next.now ban.now) (λ ρ w. AntemersAre ρ w k m result) }
 {
@@ -283,7 +283,7 @@ fn postmers<'s>(
     powers: &[u64; 32],
 ) -> [u64; 31]
     requires known { Known (λ ρ w. MovesOf ρ w m own.now next.now ban.now) }
-    requires m_le_k { (m ≤ k) × (k ≤ 31) }
+    requires in_range { (m ≤ k) × (k ≤ 31) }
     requires powers_are { PowersAre powers.now }
     ensures { All (λ ρ w. MovesOf ρ w m own.now next.now ban.now) (λ ρ w. PostmersAre ρ w k m result) }
 {
@@ -310,7 +310,7 @@ pub struct Sheet {
 // The worksheet of a word of m letters, from its states.
 fn sheet_of(k: u64, m: u64, s: states::States) -> Sheet
     requires known { Known (λ ρ w. StatesOf ρ w m s.own s.marks s.next s.ban) }
-    requires m_le_k { (m ≤ k) × (k ≤ 31) }
+    requires in_range { (m ≤ k) × (k ≤ 31) }
     ensures { All (λ ρ w. StatesOf ρ w m s.own s.marks s.next s.ban) (λ ρ w. SheetIs ρ w k m result.antemers result.postmers) }
 {
     let powers = powers::powers();

@@ -1,0 +1,10 @@
+-- `census::cleared` ends, and stays in the room and in the shelf. The loop's invariant: `i` is at most the length, which the room keeps. The measure is
+-- what is left of the length. Assumes nothing.
+use Rattle.std.proofs.Common.{◌≡◌, ◌-◌, ◌≤◌, length, arith, length-set, rules}
+use Rattle.census.proofs.cleared.Goals as goal
+
+pub loop-i-smaller : goal.loop-i-smaller
+loop-i-smaller c = simp length-set (omega arith)
+
+pub loop-i-preserved : goal.loop-i-preserved
+loop-i-preserved c = simp length-set (search rules)

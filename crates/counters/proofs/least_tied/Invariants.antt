@@ -1,0 +1,19 @@
+-- `counters::least_tied` meets its contract. The loop's invariant: at no j that it passed is R(i,j) equal and the letter a(i-j+2). The measure
+-- is how many are left.
+-- Assumes nothing.
+use Prim.Native.Nat.{suc, ◌-◌}
+use mathlib.Core.Bool.{true, ◌&&◌}
+use mathlib.Core.Path.{◌≡◌, ◌∙◌}
+use native.Mathlib.Omega.{arith}
+use lib.Dec.{eqb}
+use Rattle.definitions.specs.Words.{word as word_of}
+use Rattle.laws.specs.Orders.{key_ranking}
+use Rattle.counters.proofs.Searches.{Searched, searched-first, searched-more, searched-first-place, searched-no-place}
+use Rattle.counters.proofs.Tests.{ties, ties-tested}
+use Rattle.counters.proofs.least_tied.Given as goal
+
+abbrev pub invariant-loop-j : goal.invariant-loop-j
+invariant-loop-j l = Searched 2 (ties (key_ranking (word_of l.s.m l.s.key)) (word_of l.s.m l.s.word) l.i l.letter) l.i l.j
+
+abbrev pub decreases-loop-j : goal.decreases-loop-j
+decreases-loop-j l = suc (suc l.i) - l.j

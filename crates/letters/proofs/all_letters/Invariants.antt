@@ -1,0 +1,21 @@
+-- `letters::all_letters` meets its contract. The loop's invariant: what was found so far, with whether all that is left are letters, is
+-- whether all are. The measure is what is left of the length.
+-- Assumes nothing.
+use Prim.Native.Nat.{ℕ, suc, ◌-◌, ◌≤◌, ◌<◌}
+use mathlib.Core.Bool.{Bool, true, false, ◌&&◌}
+use mathlib.Core.List.{List}
+use mathlib.Core.Path.{◌≡◌, refl, sym, ◌∙◌}
+use native.Mathlib.Numerals.{add-one}
+use native.Mathlib.Omega.{arith}
+use borrow.Author.Rules.{rules}
+use lib.ListN.{length, get_or, drop}
+use lib.Seq.{drop-cons, drop-length}
+use Rattle.definitions.specs.Lists as lists
+use Rattle.definitions.specs.Words.{is_letter_byte}
+use Rattle.letters.proofs.all_letters.Given as goal
+
+abbrev pub invariant-loop-i : goal.invariant-loop-i
+invariant-loop-i l = (l.i ≤ length l.text) × ((l.all && lists.all is_letter_byte (drop l.i l.text)) ≡ lists.all is_letter_byte l.text)
+
+abbrev pub decreases-loop-i : goal.decreases-loop-i
+decreases-loop-i l = length l.text - l.i

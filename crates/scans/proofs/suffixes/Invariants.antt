@@ -1,0 +1,30 @@
+-- `scans::suffixes` meets its contract. The loop's invariant: from i on, each entry of a ring is the least of those from its place on, and the
+-- others are as they were. The measure is i.
+-- Assumes nothing.
+use Prim.Native.Nat.{ℕ, suc, ◌-◌, ◌≤◌, ◌<◌, min}
+use mathlib.Core.List.{List}
+use mathlib.Core.Logic.{◌⊎◌, inl, inr, ⊎_elim}
+use mathlib.Core.Path.{◌≡◌, refl, sym, ◌∙◌}
+use native.Mathlib.Omega.{arith}
+use native.Mathlib.Nat.{min-eq_left}
+use borrow.Author.Rules.{rules}
+use lib.ListN.{length, get_or, set, take, drop, length-set}
+use lib.Seq.{drop-cons, get_or-set_other}
+use Rattle.laws.specs.Rooms.{set_holds}
+use Rattle.laws.specs.Stamps.{lowest}
+use Rattle.scans.specs.Readings.{top, Entries, Suffixes}
+use Rattle.scans.proofs.suffixes.Given as goal
+
+-- the ring with the entries from i on turned
+pub record From (width : ℕ) (old ring : List ℕ) (i least : ℕ) : Type 0 where
+  pub inside : i < width
+  pub now : least ≡ lowest top (take (width - i) (drop i old))
+  pub turned : (q : ℕ) → i ≤ q → q < width → get_or ring q 0 ≡ lowest top (take (width - q) (drop q old))
+  pub others : (q : ℕ) → (q < i) ⊎ (width ≤ q) → get_or ring q 0 ≡ get_or old q 0
+  pub full : length ring ≡ 32
+
+abbrev pub invariant-loop-i : goal.invariant-loop-i
+invariant-loop-i l = From l.width l.initial.left l.left l.i l.least × From l.width l.initial.right l.right l.i l.other
+
+abbrev pub decreases-loop-i : goal.decreases-loop-i
+decreases-loop-i l = l.i

@@ -1,0 +1,42 @@
+-- `shelves::ways_on` meets its contract: the ways under the four letters are all.
+-- Assumes nothing.
+use Prim.Native.Nat.{◌+◌, ◌^◌, ◌≤◌}
+use mathlib.Core.Path.{◌≡◌}
+use native.Mathlib.Omega.{arith}
+use Rattle.shelves.specs.Descents.{ways_from}
+use Rattle.shelves.proofs.Ways.{four-ways}
+use Rattle.shelves.proofs.ways_on.Goals as goal
+use Rattle.shelves.proofs.ways_on.Goals.{After-ways_under-t_ways}
+
+-- the sum that is answered
+summed : (c : goal.After-ways_under-t_ways)
+    → let args = c.args in
+    let sum = c.ways_under-a_ways.result + c.ways_under-c_ways.result + c.ways_under-g_ways.result + c.ways_under-t_ways.result in
+    (sum ≡ ways_from args.moves.now args.ban.now args.state args.left) × (sum ≤ 4 ^ 31)
+summed c =
+    four-ways c.requires c.ways_under-a_ways.ensures c.ways_under-c_ways.ensures
+    c.ways_under-g_ways.ensures c.ways_under-t_ways.ensures
+
+pub ways_under-a_ways-requires : goal.ways_under-a_ways-requires
+ways_under-a_ways-requires c = (c.requires, omega arith)
+
+pub ways_under-c_ways-requires : goal.ways_under-c_ways-requires
+ways_under-c_ways-requires c = (c.requires, omega arith)
+
+pub ways_under-g_ways-requires : goal.ways_under-g_ways-requires
+ways_under-g_ways-requires c = (c.requires, omega arith)
+
+pub ways_under-t_ways-requires : goal.ways_under-t_ways-requires
+ways_under-t_ways-requires c = (c.requires, omega arith)
+
+pub overflow_add-result : goal.overflow_add-result
+overflow_add-result c = omega (arith, (summed (goal.at.overflow_add-result c).After-ways_under-t_ways).1)
+
+pub overflow_add-result-2 : goal.overflow_add-result-2
+overflow_add-result-2 c = omega (arith, (summed (goal.at.overflow_add-result-2 c).After-ways_under-t_ways).1)
+
+pub overflow_add-result-3 : goal.overflow_add-result-3
+overflow_add-result-3 c = omega (arith, (summed (goal.at.overflow_add-result-3 c).After-ways_under-t_ways).1)
+
+pub returns : goal.returns
+returns c = (summed (goal.at.returns c).After-ways_under-t_ways).0

@@ -1,0 +1,80 @@
+-- `sizes::products` meets its contract. The loop's invariant: the sum is that over the first a rows. A part of it is at most the whole,
+-- which is at most 4^31. The measure is how many rows are left.
+-- Assumes nothing.
+use Prim.Native.Nat.{ℕ, zero, suc, ◌+◌, ◌-◌, ◌*◌, ◌^◌, ◌≤◌}
+use mathlib.Core.Bool.{Bool, true, false}
+use mathlib.Core.List.{List}
+use mathlib.Core.Path.{◌≡◌, refl, sym, ap, ◌∙◌}
+use native.Mathlib.Numerals.{add-one}
+use native.Mathlib.Omega.{arith}
+use borrow.Author.Rules.{rules}
+use borrow.Author.Tests.{leb-true, leb-false}
+use lib.Dec.{leb}
+use lib.ListN.{get_or}
+use Rattle.definitions.specs.Lists.{tabulate, total}
+use Rattle.laws.specs.Split.{product_sum}
+use Rattle.laws.proofs.Split.{total-last}
+use Rattle.sizes.proofs.products.Goals as goal
+
+-- a part of a sum is at most the whole
+part-le : (f : ℕ → ℕ) (k n : ℕ) → k ≤ n → total (tabulate f k) ≤ total (tabulate f n)
+part-le f k zero h = let e : k ≡ 0 = omega arith in rw e (omega arith)
+part-le f k (suc n) h = go (leb k n) refl (part-le f k n)
+  where
+    go : (t : Bool) → leb k n ≡ t → (k ≤ n → total (tabulate f k) ≤ total (tabulate f n)) → total (tabulate f k) ≤ total (tabulate f (suc n))
+    go true q rec = omega (arith, rec (leb-true k n q), total-last f n)
+    go false q rec = let e : k ≡ suc n = omega (arith, leb-false k n q) in rw e (omega arith)
+
+-- the sum over one row more
+row_more : (n : ℕ) (before after : List ℕ) (a : ℕ) → product_sum n before after (suc a) ≡ product_sum n before after a + get_or before (n - a) 0 * get_or after a 0
+row_more n before after a = total-last (λ i. get_or before (n - i) 0 * get_or after i 0) a
+
+-- the sum with one row more is at most 4^31
+row_fits : (n : ℕ) (before after : List ℕ) (a : ℕ) → product_sum n before after (suc n) ≤ 4 ^ 31 → a ≤ n
+    → product_sum n before after a + get_or before (n - a) 0 * get_or after a 0 ≤ 4 ^ 31
+row_fits n before after a h k = omega (arith, row_more n before after a, part-le (λ i. get_or before (n - i) 0 * get_or after i 0) (suc a) (suc n) (omega arith))
+
+pub loop-a-init : goal.loop-a-init
+loop-a-init c = (omega arith, refl)
+
+pub offset_bounds-sheet-before : goal.offset_bounds-sheet-before
+offset_bounds-sheet-before c = omega (arith, c.requires.0)
+
+pub bounds-sheet-before : goal.bounds-sheet-before
+bounds-sheet-before c = omega (arith, c.requires.0)
+
+pub offset_bounds-sheet-a : goal.offset_bounds-sheet-a
+offset_bounds-sheet-a c = omega (arith, c.requires.0)
+
+pub bounds-sheet-a : goal.bounds-sheet-a
+bounds-sheet-a c = omega (arith, c.requires.0)
+
+pub overflow_mul-product : goal.overflow_mul-product
+overflow_mul-product c =
+    let start = c in
+    let sheet = start.args.t2 in
+    omega (arith, row_fits start.args.n sheet.antemers sheet.postmers c.loop-a.a start.requires.1 (omega arith))
+
+pub overflow_add-sum : goal.overflow_add-sum
+overflow_add-sum c =
+    let start = c in
+    let sheet = start.args.t2 in
+    let at = c.loop-a in
+    omega (arith, at.invariant.1, row_fits start.args.n sheet.antemers sheet.postmers at.a start.requires.1 (omega arith))
+
+pub overflow_add-a : goal.overflow_add-a
+overflow_add-a c = omega (arith, c.requires.0)
+
+pub loop-a-preserved : goal.loop-a-preserved
+loop-a-preserved c =
+    let start = c in
+    let sheet = start.args.t2 in
+    let at = c.loop-a in
+    (omega arith, rw (at.invariant.1, add-one) (sym (row_more start.args.n sheet.antemers sheet.postmers at.a)))
+
+pub returns : goal.returns
+returns c =
+    let start = c in
+    let at = c.loop-a in
+    let end : at.a ≡ suc start.args.n = omega arith in
+    at.invariant.1 ∙ ap (product_sum start.args.n start.args.t2.antemers start.args.t2.postmers) end

@@ -1,0 +1,28 @@
+-- `states::link` meets its contract: four entries, each as its call gives it, from the row that was read to the row that is written.
+-- Assumes nothing.
+use mathlib.Core.Path.{◌∙◌}
+use Rattle.states.proofs.link.Goals as goal
+
+pub row-fallen-requires : goal.row-fallen-requires
+row-fallen-requires c = (c.requires.from, c.requires.long)
+
+pub entry-requires : goal.entry-requires
+entry-requires c = c.requires.small
+
+pub entry-requires-2 : goal.entry-requires-2
+entry-requires-2 c = c.requires.small
+
+pub entry-requires-3 : goal.entry-requires-3
+entry-requires-3 c = c.requires.small
+
+pub entry-requires-4 : goal.entry-requires-4
+entry-requires-4 c = c.requires.small
+
+pub put-requires : goal.put-requires
+put-requires c = c.requires in (pre.to, pre.long)
+
+pub returns : goal.returns
+returns c =
+    let last = c in
+    c.put.ensures
+    ∙ rw (← last.row-fallen.ensures, last.entry.ensures, last.entry-2.ensures, last.entry-3.ensures, last.entry-4.ensures)

@@ -1,0 +1,39 @@
+-- `vigemins::least_mer` meets its contract. The loop's invariant: of the first p m-mers the least is held, with its value and its position.
+-- The measure is how many m-mers are left.
+-- Assumes nothing.
+use Prim.Native.Nat.{ℕ, suc, ◌+◌, ◌-◌, ◌*◌, ◌/◌, ◌^◌, ◌≤◌, ◌<◌}
+use mathlib.Core.Bool.{Bool, true, false, cond}
+use mathlib.Core.Logic.{⊎_elim}
+use mathlib.Core.Path.{◌≡◌, sym, ap, ◌∙◌}
+use native.Mathlib.Nat.{one-le-pow, sub-zero}
+use native.Mathlib.Numerals.{add-one}
+use native.Mathlib.Omega.{arith}
+use borrow.Author.Rules.{rules}
+use borrow.Author.Tests.{le-leb, lt-leb}
+use lib.Bits.{bit_and, bit_xor}
+use lib.Dec.{leb}
+use lib.ListN.{length, get_or, take, drop}
+use lib.Seq.{take_all, take-suc}
+use Rattle.definitions.specs.Words.{Word, val, word as word_of}
+use Rattle.definitions.specs.Vigemins.{keyed, least_place, vigemin, vigemin_at}
+use Rattle.definitions.specs.Outcomes.{vigemin_answer}
+use Rattle.laws.specs.Numbers.{four-pos, length_digits, digits-below, window-cut}
+use Rattle.laws.specs.Minima.{length-values, least_more, vigemin-word}
+use Rattle.laws.specs.Rolls.{values, value-mer}
+use Rattle.laws.specs.Accepted.{VigeminAccepted}
+use Rattle.powers.specs.Powers.{power_outcome, power-four}
+use Rattle.vigemins.proofs.least_mer.Given as goal
+
+-- what is held of the first p m-mers of a word: the least of them, its value and its position
+pub record Passed (m key : ℕ) (x : Word) (p word least position : ℕ) : Type 0 where
+  pub some : 0 < p
+  pub inside : p + m ≤ suc (length x)
+  pub place : position ≡ least_place (take p (values m key x))
+  pub mer : word ≡ val (take m (drop position x))
+  pub lowest : least ≡ get_or (values m key x) position 0
+
+abbrev pub invariant-loop-p : goal.invariant-loop-p
+invariant-loop-p l = Passed l.m l.key (word_of l.k l.kmer) l.p l.word l.least l.position
+
+abbrev pub decreases-loop-p : goal.decreases-loop-p
+decreases-loop-p l = suc l.last - l.p
