@@ -21,14 +21,14 @@ pub returns-then-not-is_letter : goal.returns-then-not-is_letter
 returns-then-not-is_letter c =
     let text = c.args.text.now in
     let at = c.loop-i in
-    let here : bad (get_or text at.i 0) ≡ true = ap not (sym c.is_letter.ensures) ∙ c.if-not-is_letter.true in
+    let here : bad (get_or text at.i 0) ≡ true = ap not (sym c.is_letter.ensures ∙ c.if-not-is_letter.true) in
     omega (arith, at.invariant.1, first_place-look bad text 0 at.i c.loop-i-test.true here)
 
 pub loop-i-preserved : goal.loop-i-preserved
 loop-i-preserved c =
     let text = c.args.text.now in
     let at = c.loop-i in
-    let here : bad (get_or text at.i 0) ≡ false = ap not (sym c.is_letter.ensures) ∙ c.if-not-is_letter.false in
+    let here : bad (get_or text at.i 0) ≡ false = ap not (sym c.is_letter.ensures ∙ c.if-not-is_letter.false) in
     (omega arith, rw add-one (omega (arith, at.invariant.1, first_place-look bad text 0 at.i c.loop-i-test.true here)))
 
 pub returns : goal.returns
