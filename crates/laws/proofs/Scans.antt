@@ -1,12 +1,9 @@
 -- The positions of a scan never go back.
 -- Assumes nothing.
-use Rattle.std.specs.Prelude.{ℕ, zero, suc, ◌+◌, ◌-◌, ◌≤◌, ◌<◌, List, [], ◌∷◌, map, ◌≡◌, refl, length, get_or, take, drop}
-use Rattle.std.proofs.Common.{sym, ap, ◌∙◌, add-zero, add-suc, le_refl, le_trans, le_of_suc-le-suc, not-suc-le-zero, arith, length-take, length-drop, drop-drop, ext_get_or, get_or-drop, get_or-take}
-use Rattle.std.proofs.lemmas.List.{length-map}
+use Rattle.std.specs.Prelude.{ℕ, zero, suc, ◌+◌, ◌≤◌, ◌<◌, length, get_or}
+use Rattle.std.proofs.Common.{add-zero, add-suc, le_refl, le_trans, arith}
 use Rattle.definitions.specs.Words.{Word}
-use Rattle.definitions.specs.Vigemins.{Form, value, windows, vigemin_at, vigemin, positions, scan}
-use Rattle.laws.specs.Filters.{at_map}
-use Rattle.laws.specs.Minima.{stretch-take, length-stretch, length-windows, window-at, vigemin-inside, vigemin-word, vigemin-least, vigemin-leftmost}
+use Rattle.definitions.specs.Vigemins.{Form, scan}
 use Rattle.laws.specs.Scans.{scan-inside, scan-least, scan-leftmost}
 
 module _ (f : Form) (k m : ℕ) (s : Word) where
@@ -31,4 +28,3 @@ module _ (f : Form) (k m : ℕ) (s : Word) where
   pub scan-onward : (p d : ℕ) → m ≤ k → p + d + k ≤ length s → get_or (scan f k m s) p 0 ≤ get_or (scan f k m s) (p + d) 0
   scan-onward p zero mk h = rw add-zero (le_refl (get_or (scan f k m s) p 0))
   scan-onward p (suc d) mk h = rw add-suc (le_trans (scan-onward p d mk (omega arith)) (scan-forward (p + d) mk (omega arith)))
-

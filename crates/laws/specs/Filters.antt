@@ -209,7 +209,7 @@ module _ {A : Type 0} where
   pub tabulate-agree : {f g : ℕ → A} (n : ℕ) → ((i : ℕ) → i < n → f i ≡ g i) → tabulate f n ≡ tabulate g n
   tabulate-agree {f = f} {g = g} zero h = refl
   tabulate-agree {f = f} {g = g} (suc n) h =
-    ap₂ (λ (a : A) (l : List A). a ∷ l) (h zero (omega arith)) (tabulate-agree {f = λ i. f (suc i)} {g = λ i. g (suc i)} n (λ i k. h (suc i) (omega arith)))
+      ap₂ (λ (a : A) (l : List A). a ∷ l) (h zero (omega arith)) (tabulate-agree {f = λ i. f (suc i)} {g = λ i. g (suc i)} n (λ i k. h (suc i) (omega arith)))
 
   -- a table from a place on is a table
   pub drop-tabulate : (f : ℕ → A) (n r : ℕ) → drop r (tabulate f n) ≡ tabulate (λ i. f (r + i)) (n - r)

@@ -1,7 +1,7 @@
 -- The scan of a sequence: what it holds, that its positions never go back, and the scan of a part.
 -- Assumes nothing.
 use Rattle.std.specs.Prelude.{ℕ, zero, suc, ◌+◌, ◌-◌, ◌≤◌, ◌<◌, List, [], ◌∷◌, map, ◌≡◌, refl, length, get_or, take, drop}
-use Rattle.std.proofs.Common.{sym, ap, ◌∙◌, add-zero, add-suc, le_refl, le_trans, le_of_suc-le-suc, not-suc-le-zero, arith, length-take, length-drop, drop-drop, ext_get_or, get_or-drop, get_or-take}
+use Rattle.std.proofs.Common.{sym, ap, ◌∙◌, le_of_suc-le-suc, not-suc-le-zero, arith, length-take, length-drop, drop-drop, ext_get_or, get_or-drop, get_or-take}
 use Rattle.std.proofs.lemmas.List.{length-map}
 use Rattle.definitions.specs.Words.{Word}
 use Rattle.definitions.specs.Vigemins.{Form, value, windows, vigemin_at, vigemin, positions, scan}

@@ -1,19 +1,15 @@
 -- The size of a shelf is the sum of antemers times postmers: each k-mer of the shelf is cut where w first stands.
 -- Assumes nothing.
-use Rattle.std.specs.Prelude.{ℕ, zero, suc, ◌+◌, ◌-◌, ◌*◌, ◌≤◌, ◌<◌, Bool, true, false, not, ◌&&◌, ◌||◌, ◌≡◌, refl, leb, length, get_or, take, drop}
-use Rattle.std.proofs.Math.Bool.{and-true, and-false, or-false, and_assoc, and_comm}
-use Rattle.std.proofs.Common.{true≢false, sym, ap, ap₂, ◌∙◌, add_comm, add_assoc, arith, le-ltb, le-leb, ne_eqb, drop_of_length-le, length-take-le, take-take, take-add}
-use mathlib.Core.List.{List, [], ◌∷◌, ◌++◌, Memᴰ}
+use Rattle.std.specs.Prelude.{ℕ, ◌+◌, ◌-◌, ◌*◌, ◌≤◌, ◌<◌, Bool, ◌≡◌, refl, leb, length, get_or}
+use Rattle.std.proofs.Common.{ap, ◌∙◌, le-leb}
+use mathlib.Core.List.{List, [], ◌∷◌}
 use Rattle.std.proofs.lemmas.Bool.{lt-leb}
-use Rattle.definitions.specs.Lists.{all, tabulate, total}
-use Rattle.definitions.specs.Words.{Word, Letters, Mer, same}
-use Rattle.definitions.specs.Vigemins.{Form, keyed, value, below, above, windows, vigemin}
-use Rattle.definitions.specs.Shelves.{size, antemer, postmer, begins, antemers, postmers, row, column}
-use Rattle.laws.specs.Tests.{and_l, and-cong, contrary, same-eq, eq-same}
-use Rattle.laws.specs.Filters.{any, tabulate-at}
-use Rattle.laws.specs.Orders.{Ranking, OneToOne, ranked, keyed-law, value-one, above-neither}
-use Rattle.laws.specs.Minima.{length-windows, window-at, windows-drop, windows-take, windows-mer, vigemin-is}
-use Rattle.laws.specs.Counting.{count, count-cong, count_none, count-either, count-product}
+use Rattle.definitions.specs.Lists.{tabulate, total}
+use Rattle.definitions.specs.Words.{Word}
+use Rattle.definitions.specs.Vigemins.{Form, keyed}
+use Rattle.definitions.specs.Shelves.{antemers, postmers, row, column}
+use Rattle.laws.specs.Filters.{tabulate-at}
+use Rattle.laws.specs.Counting.{count}
 
 -- ---- the rows
 

@@ -1,5 +1,6 @@
 // Letters: which bytes are letters, and which letter each is. Assumes nothing.
 #![tactic(auto)]
+
 ghost use Rattle.std.specs.Prelude.{◌≡◌};
 ghost use Rattle.definitions.specs.Lists.{all};
 ghost use Rattle.definitions.specs.Words.{letter_of, is_letter_byte};

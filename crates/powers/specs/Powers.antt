@@ -1,6 +1,6 @@
 -- The power of four that the table answers, and what the table holds.
 -- Assumes nothing.
-use Rattle.std.specs.Prelude.{ℕ, ◌+◌, ◌-◌, ◌*◌, ◌%◌, ◌^◌, ◌≤◌, ◌<◌, List, ◌≡◌, get_or}
+use Rattle.std.specs.Prelude.{ℕ, ◌+◌, ◌-◌, ◌%◌, ◌^◌, ◌≤◌, ◌<◌, List, ◌≡◌, get_or}
 use Rattle.std.proofs.Common.{ap, ◌∙◌, lt_of_le_of_lt, mod-eq_of_lt, arith, pow-add}
 use Rattle.std.proofs.Math.Nat.{pow-le-pow_right, mul-mod_left}
 use Rattle.definitions.specs.Lists.{tabulate}

@@ -1,6 +1,7 @@
 // Powers: the powers of four, the range test, the refusals of k, m, key and word, the lesser of two numbers and the sign of
 // one against another. Assumes nothing.
 #![tactic(auto)]
+
 ghost use Rattle.std.specs.Prelude.{◌≡◌, [], ◌∷◌, ◌++◌, ◌^◌, min, leb};
 ghost use Rattle.definitions.specs.Lists.{tabulate};
 ghost use Rattle.definitions.specs.Refusals.{refusal, bad_key, bad_word};

@@ -1,15 +1,10 @@
 -- `letters::all_letters` meets its contract. The loop's invariant: what was found so far, with whether all that is left are letters, is
 -- whether all are. The measure is what is left of the length.
 -- Assumes nothing.
-use Prim.Native.Nat.{ℕ, suc, ◌-◌, ◌≤◌, ◌<◌}
-use mathlib.Core.Bool.{Bool, true, false, ◌&&◌}
-use mathlib.Core.List.{List}
-use mathlib.Core.Path.{◌≡◌, refl, sym, ◌∙◌}
-use native.Mathlib.Numerals.{add-one}
-use native.Mathlib.Omega.{arith}
-use borrow.Author.Rules.{rules}
-use lib.ListN.{length, get_or, drop}
-use lib.Seq.{drop-cons, drop-length}
+use Prim.Native.Nat.{◌-◌, ◌≤◌}
+use mathlib.Core.Bool.{◌&&◌}
+use mathlib.Core.Path.{◌≡◌}
+use lib.ListN.{length, drop}
 use Rattle.definitions.specs.Lists as lists
 use Rattle.definitions.specs.Words.{is_letter_byte}
 use Rattle.letters.proofs.all_letters.Given as goal

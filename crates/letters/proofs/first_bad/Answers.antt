@@ -1,6 +1,5 @@
 -- `letters::first_bad` meets its contract: where all bytes are letters, the first bad place is the end.
 -- Assumes nothing.
-use borrow.Author.Rules.{rules}
 use mathlib.Core.Path.{sym, ◌∙◌}
 use Rattle.laws.specs.Numbers.{first_bad_place-none}
 use Rattle.letters.proofs.first_bad.Goals as goal

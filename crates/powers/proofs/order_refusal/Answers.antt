@@ -2,7 +2,6 @@
 -- Assumes nothing.
 use mathlib.Core.Bool.{true}
 use mathlib.Core.Path.{◌≡◌}
-use borrow.Author.Rules.{rules}
 use Rattle.definitions.specs.Refusals.{bad_length, bad_m}
 use Rattle.powers.proofs.order_refusal.Goals as goal
 

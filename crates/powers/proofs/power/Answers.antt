@@ -4,7 +4,6 @@ use Prim.Native.Nat.{ℕ, ◌^◌}
 use mathlib.Core.List.{List}
 use mathlib.Core.Path.{sym, ap, ◌∙◌}
 use native.Mathlib.Omega.{arith}
-use borrow.Author.Rules.{rules}
 use lib.ListN.{get_or}
 use Rattle.laws.specs.Filters.{tabulate-at}
 use Rattle.powers.specs.Powers.{power-four, power-none}

@@ -4,7 +4,6 @@ use mathlib.Core.Bool.{cond}
 use mathlib.Core.List.{[], ◌∷◌, ◌++◌}
 use mathlib.Core.Path.{◌≡◌, sym}
 use native.Mathlib.Omega.{arith}
-use borrow.Author.Rules.{rules}
 use borrow.Author.Tests.{ne_eqb}
 use lib.Dec.{eqb}
 use Rattle.definitions.specs.Refusals.{refusal, bad_key, bad_word}
