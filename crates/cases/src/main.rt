@@ -2,20 +2,22 @@
 // run", and the refusals of each operation. The cases of a block are the lines of a file of data/. It writes a line for each case that differs,
 // and for each block how many of its cases hold. Cases with m = k stand in blocks of their own.
 #![tactic(auto)]
+
 mod columns;
-mod files;
 mod operations;
 mod printed;
 mod rooms;
 mod tables;
 mod tally;
 
-fn main() {
-    tables::run(b"printer-malformed");
-    tables::run(b"printer-well-formed");
-    tables::run(b"printer-m-equal-to-k");
-    tables::run(b"W1-to-W12");
-    tables::run(b"also-run");
-    tables::run(b"refusals");
-    tables::run(b"m-equal-to-k");
+use std::io;
+
+fn main(rt: HostRuntime) -> io::Result<()> {
+    tables::run(&rt, "printer-malformed")?;
+    tables::run(&rt, "printer-well-formed")?;
+    tables::run(&rt, "printer-m-equal-to-k")?;
+    tables::run(&rt, "W1-to-W12")?;
+    tables::run(&rt, "also-run")?;
+    tables::run(&rt, "refusals")?;
+    tables::run(&rt, "m-equal-to-k")
 }

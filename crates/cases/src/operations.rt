@@ -16,7 +16,7 @@ pub fn pack_line_feed(c: Case) -> bool {
 
 // Whether a room has these bytes.
 fn text_is(room: [u8; 8], text: &[u8]) -> bool {
-    check::same(&room, text)
+    &room[..] == text
 }
 
 // Unpacking the word as one of k letters: the refusal, how many letters are written, and the room of eight after.

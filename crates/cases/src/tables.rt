@@ -1,28 +1,29 @@
 // The table of a block is a file, with a case to a line: the operation; its text, or a name where it has none; and the columns of what is asked and of
 // what must come of it. For the printer they are two files, the bytes that are read and what must be printed. A line that starts with # is a comment.
+ghost use Rattle.std.specs.Prelude.{◌≤◌, length};
+
 use crate::columns::{Case, Numbers};
-use crate::files::load;
 use crate::tally::Tally;
 use crate::{columns, operations, printed, tally};
-use check::same;
+use std::{fs, io};
 
 // Whether a case of the foreign forms holds. No other operation does.
 fn foreign(operation: &[u8], text: &[u8], c: Case, numbers: &Numbers) -> bool {
-    if same(operation, b"foreign-size") {
+    if operation == b"foreign-size".as_slice() {
         return operations::foreign_size(c);
     }
-    same(operation, b"foreign-scan") && operations::foreign_scan(text, c, numbers)
+    (operation == b"foreign-scan".as_slice()) && operations::foreign_scan(text, c, numbers)
 }
 
 // Whether a case of counting antemers or k-mers holds, or else of the foreign forms.
 fn counts(operation: &[u8], text: &[u8], c: Case, numbers: &Numbers) -> bool {
-    if same(operation, b"plain-counter") {
+    if operation == b"plain-counter".as_slice() {
         return operations::antemers(c);
     }
-    if same(operation, b"worksheet") {
+    if operation == b"worksheet".as_slice() {
         return operations::worksheet(c, numbers);
     }
-    if same(operation, b"sum-of-sizes") {
+    if operation == b"sum-of-sizes".as_slice() {
         return operations::sum_of_sizes(c);
     }
     foreign(operation, text, c, numbers)
@@ -30,10 +31,10 @@ fn counts(operation: &[u8], text: &[u8], c: Case, numbers: &Numbers) -> bool {
 
 // Whether a case of a shelf holds, or else of counting.
 fn shelves(operation: &[u8], text: &[u8], c: Case, numbers: &Numbers) -> bool {
-    if same(operation, b"size") {
+    if operation == b"size".as_slice() {
         return operations::size(c);
     }
-    if same(operation, b"page") {
+    if operation == b"page".as_slice() {
         return operations::page(c, numbers);
     }
     counts(operation, text, c, numbers)
@@ -41,13 +42,13 @@ fn shelves(operation: &[u8], text: &[u8], c: Case, numbers: &Numbers) -> bool {
 
 // Whether a case of vigemins holds, or else of a shelf.
 fn vigemins(operation: &[u8], text: &[u8], c: Case, numbers: &Numbers) -> bool {
-    if same(operation, b"vigemin") {
+    if operation == b"vigemin".as_slice() {
         return operations::vigemin(c);
     }
-    if same(operation, b"scan") {
+    if operation == b"scan".as_slice() {
         return operations::scan(text, c, numbers);
     }
-    if same(operation, b"long-scan") {
+    if operation == b"long-scan".as_slice() {
         return operations::long_scan(c);
     }
     shelves(operation, text, c, numbers)
@@ -56,76 +57,89 @@ fn vigemins(operation: &[u8], text: &[u8], c: Case, numbers: &Numbers) -> bool {
 // Whether a case of packing holds, or else of vigemins.
 fn words(operation: &[u8], text: &[u8], numbers: &Numbers) -> bool {
     let c = columns::read(numbers);
-    if same(operation, b"pack") {
+    if operation == b"pack".as_slice() {
         return operations::pack(text, c);
     }
-    if same(operation, b"unpack") {
+    if operation == b"unpack".as_slice() {
         return operations::unpack(text, c);
     }
-    if same(operation, b"pack-line-feed") {
+    if operation == b"pack-line-feed".as_slice() {
         return operations::pack_line_feed(c);
     }
     vigemins(operation, text, c, numbers)
 }
 
+// The first place at which a text has a byte, from a place on; the length where there is none.
+fn find(text: &[u8], from: usize, byte: u8) -> usize
+    requires { from ≤ length text.now }
+    ensures low { from ≤ result }
+    ensures high { result ≤ length text.now }
+{
+    let mut i = from;
+    while i < text.len() {
+        if text[i] == byte {
+            return i;
+        }
+        i += 1;
+    }
+    i
+}
+
 // Whether a case holds, of its operation and what stands behind the next space.
-fn asked(operation: &[u8], rest: &[u8]) -> bool {
-    let end = bytes::scan::find(rest, 0, rest.len(), b' ');
+fn asked(rt: &HostRuntime, operation: &[u8], rest: &[u8]) -> bool {
+    let end = find(rest, 0, b' ');
     if end == rest.len() {
         return false;
     }
     let text = &rest[0..end];
-    if same(operation, b"printer") {
-        return printed::printer(text, &rest[end + 1..]);
+    if operation == b"printer".as_slice() {
+        return printed::printer(rt, text, &rest[end + 1..]);
     }
     let numbers = columns::numbers(&rest[end..]);
     words(operation, text, &numbers)
 }
 
 // Whether the case of a line holds.
-fn holds(line: &[u8]) -> bool {
-    let end = bytes::scan::find(line, 0, line.len(), b' ');
+fn holds(rt: &HostRuntime, line: &[u8]) -> bool {
+    let end = find(line, 0, b' ');
     if end == line.len() {
         return false;
     }
-    asked(&line[0..end], &line[end + 1..])
+    asked(rt, &line[0..end], &line[end + 1..])
 }
 
 // Counts a line, where it is a case.
-fn counted(t: Tally, line: &[u8]) -> Tally {
+fn counted(rt: &HostRuntime, t: Tally, line: &[u8]) -> io::Result<Tally> {
     if 0 < line.len() && line[0] == b'#' {
-        return t;
+        return Ok(t);
     }
-    tally::one(t, line, holds(line))
+    tally::one(rt, t, line, holds(rt, line))
 }
 
 // The cases of a table.
-fn all(table: &[u8]) -> Tally {
+fn all(rt: &HostRuntime, table: &[u8]) -> io::Result<Tally> {
     let mut t = tally::none();
     let mut at = 0;
     while at < table.len() {
-        let end = bytes::scan::find(table, at, table.len(), b'\n');
-        t = counted(t, &table[at..end]);
+        let end = find(table, at, b'\n');
+        t = counted(rt, t, &table[at..end])?;
         if end == table.len() {
-            return t;
+            return Ok(t);
         }
         at = end + 1;
     }
-    t
+    Ok(t)
 }
 
-// The cases of the table that a file has. One that cannot be read whole, or that is empty, is a case that does not hold.
-fn block(file: &[u8]) -> Tally {
-    let mut table = io::large_buffer();
-    let read = load(file, &mut table);
-    let n = read.length;
-    if !read.whole | (n == 0) {
-        return tally::one(tally::none(), file, false);
+// The cases of the table that a file has. One that cannot be read, or that is empty, is a case that does not hold.
+fn block(rt: &HostRuntime, file: &str) -> io::Result<Tally> {
+    match fs::read(rt, file) {
+        Ok(table) if 0 < table.len() => all(rt, &table),
+        _ => tally::one(rt, tally::none(), file.as_bytes(), false),
     }
-    all(&table[..n])
 }
 
 // Runs the cases of a block, and writes its line.
-pub fn run(file: &[u8]) {
-    tally::report(file, block(file));
+pub fn run(rt: &HostRuntime, file: &str) -> io::Result<()> {
+    tally::report(rt, file, block(rt, file)?)
 }

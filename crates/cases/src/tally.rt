@@ -1,5 +1,6 @@
 // How many cases of a block were run, and how many of them held.
-use libc::STDOUT_FILENO;
+use std::io;
+use std::io::Print;
 
 #[derive(Clone, Copy)]
 pub struct Tally {
@@ -12,17 +13,6 @@ pub fn none() -> Tally {
     Tally { held: 0, run: 0 }
 }
 
-// Writes some bytes.
-fn say(bytes: &[u8]) {
-    io::write_all(STDOUT_FILENO, bytes);
-}
-
-// Writes a label and a number.
-fn say_number(label: &[u8], number: u64) {
-    say(label);
-    io::print_decimal(STDOUT_FILENO, number);
-}
-
 // One case more.
 fn count(t: Tally, holds: bool) -> Tally {
     let run = std::num::wrapping_add_u64(t.run, 1);
@@ -30,20 +20,18 @@ fn count(t: Tally, holds: bool) -> Tally {
     Tally { held, run }
 }
 
-// One case more. One that does not hold is told.
-pub fn one(t: Tally, case: &[u8], holds: bool) -> Tally {
+// One case more. One that does not hold is told: its line is bytes, which need not be text.
+pub fn one(rt: &HostRuntime, t: Tally, case: &[u8], holds: bool) -> io::Result<Tally> {
     if !holds {
-        say(b"differs: ");
-        say(case);
-        say(b"\n");
+        rt.print("differs: ")?;
+        rt.write_all(case)?;
+        rt.println("")?;
     }
-    count(t, holds)
+    Ok(count(t, holds))
 }
 
 // The line of a block: its name, how many cases held, how many were run.
-pub fn report(block: &[u8], t: Tally) {
-    say(block);
-    say_number(b": ", t.held);
-    say_number(b" of ", t.run);
-    say(b"\n");
+pub fn report(rt: &HostRuntime, block: &str, t: Tally) -> io::Result<()> {
+    let Tally { held, run } = t;
+    println!(rt; "{block}: {held} of {run}")
 }

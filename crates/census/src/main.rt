@@ -2,9 +2,10 @@
 // it compares the operations: each vigemin, the size of every word, and some shelves by pages. It prints a line for each k; where something
 // differs it says what, and stops.
 #![tactic(auto)]
+
 ghost use Rattle.std.specs.Prelude.{◌+◌, ◌<◌, ◌≤◌, length};
 
-use libc::STDOUT_FILENO;
+use std::io;
 use std::num::wrapping_add_u64;
 
 // The greatest k.
@@ -95,45 +96,39 @@ fn nth_word(n: u64, words: u64, key: u64, state: u64) -> u64
 
 // ---- what is printed
 
-// Prints a byte; for a digit d, the number at place d.
-fn print_byte(byte: u8, numbers: &[u64; 8]) {
-    if (byte < b'0') | (b'7' < byte) {
-        io::write_all(STDOUT_FILENO, &[byte]);
-        return;
-    }
-    io::print_decimal(STDOUT_FILENO, numbers[(byte % 8) as usize]);
-}
-
-// Prints a text in which each digit d stands for the number at place d.
-fn print(text: &[u8], numbers: &[u64; 8]) {
-    let mut i = 0;
-    while i < text.len() {
-        print_byte(text[i], numbers);
-        i += 1;
-    }
-}
-
 // Whether an operation refused nothing and answered what was counted, of a k-mer or a word; where not, says what differs.
-fn same(what: &[u8], s: Settings, of: u64, refusal: u64, answered: u64, counted: u64) -> bool {
+fn same(
+    rt: &HostRuntime,
+    what: &str,
+    s: Settings,
+    of: u64,
+    refusal: u64,
+    answered: u64,
+    counted: u64,
+) -> bool {
     if (refusal == 0) & (answered == counted) {
         return true;
     }
-    let numbers = [s.k, s.m, s.key, of, refusal, answered, counted, 0];
-    io::write_all(STDOUT_FILENO, what);
-    print(
-        b" differs: k=0 m=1 key=2, of 3: refusal 4, answer 5, counted 6\n",
-        &numbers,
+    let Settings { k, m, key } = s;
+    let _told = println!(rt;
+        "{what} differs: k={k} m={m} key={key}, of {of}: refusal {refusal}, answer {answered}, counted {counted}"
     );
     false
 }
 
 // Prints what was compared for a k; under each key that is four shelves.
-fn print_line(k: u64, keys: u64, vigemins: u64, sizes: u64, pages: u64) {
-    let numbers = [k, keys, vigemins, sizes, keys << 2, pages, 0, 0];
-    print(
-        b"k=0: 1 keys, 2 vigemins, 3 sizes, and 4 shelves in 5 pages agree\n",
-        &numbers,
-    );
+fn print_line(
+    rt: &HostRuntime,
+    k: u64,
+    keys: u64,
+    vigemins: u64,
+    sizes: u64,
+    pages: u64,
+) -> io::Result<()> {
+    let shelves = keys << 2;
+    println!(rt;
+        "k={k}: {keys} keys, {vigemins} vigemins, {sizes} sizes, and {shelves} shelves in {pages} pages agree"
+    )
 }
 
 // ---- vigemins
@@ -174,14 +169,15 @@ fn plain_vigemin(s: Settings, kmer: u64) -> Mer
 const NONE: u64 = 65536;
 
 // The word of a k-mer's vigemin; NONE where the operation does not find it.
-fn checked_vigemin(s: Settings, kmer: u64) -> u64
+fn checked_vigemin(rt: &HostRuntime, s: Settings, kmer: u64) -> u64
     ensures { result ≤ 65536 }
 {
     let mer = plain_vigemin(s, kmer);
     let found = vigemins::vigemin(s.k, s.m, s.key, kmer);
-    let right = same(b"vigemin", s, kmer, found.refusal, found.word, mer.word);
+    let right = same(rt, "vigemin", s, kmer, found.refusal, found.word, mer.word);
     let placed = same(
-        b"position of the vigemin",
+        rt,
+        "position of the vigemin",
         s,
         kmer,
         0,
@@ -195,11 +191,11 @@ fn checked_vigemin(s: Settings, kmer: u64) -> u64
 }
 
 // Finds the vigemin of every k-mer, and tallies them; whether the operation finds the same.
-fn vigemins_agree(s: Settings, found: &mut Table, tally: &mut Table) -> bool {
+fn vigemins_agree(rt: &HostRuntime, s: Settings, found: &mut Table, tally: &mut Table) -> bool {
     let kmers = power(s.k);
     let mut kmer = 0;
     while kmer < kmers {
-        let word = checked_vigemin(s, kmer);
+        let word = checked_vigemin(rt, s, kmer);
         if word == NONE {
             return false;
         }
@@ -213,25 +209,25 @@ fn vigemins_agree(s: Settings, found: &mut Table, tally: &mut Table) -> bool {
 // ---- sizes
 
 // Whether the size of a word is what was counted.
-fn size_agrees(s: Settings, word: u64, counted: u64) -> bool {
+fn size_agrees(rt: &HostRuntime, s: Settings, word: u64, counted: u64) -> bool {
     let size = sizes::size(s.k, s.m, s.key, word);
-    same(b"size", s, word, size.refusal, size.count, counted)
+    same(rt, "size", s, word, size.refusal, size.count, counted)
 }
 
 // Whether the size of every word is its tally, and the sizes add up to 4^k.
-fn sizes_agree(s: Settings, tally: &Table) -> bool {
+fn sizes_agree(rt: &HostRuntime, s: Settings, tally: &Table) -> bool {
     let words = power(s.m);
     let mut sum = 0;
     let mut word = 0;
     while word < words {
         let counted = tally[word as usize];
-        if !size_agrees(s, word, counted) {
+        if !size_agrees(rt, s, word, counted) {
             return false;
         }
         sum = wrapping_add_u64(sum, counted);
         word += 1;
     }
-    same(b"sum of the sizes", s, words, 0, sum, power(s.k))
+    same(rt, "sum of the sizes", s, words, 0, sum, power(s.k))
 }
 
 // ---- shelves
@@ -278,6 +274,7 @@ fn cleared(room: &mut [u64], start: usize, due: usize, shelf: &Table) -> usize
 
 // Whether a page from a place of the shelf on writes the k-mers that are due, into a room that has NONE all over, before and after.
 fn page_agrees(
+    rt: &HostRuntime,
     s: Settings,
     word: u64,
     start: usize,
@@ -291,13 +288,14 @@ fn page_agrees(
     let right = cleared(room, start, due, shelf) as u64;
     let entries = room.len() as u64;
     same(
-        b"number written by a page",
+        rt,
+        "number written by a page",
         s,
         word,
         paged.refusal,
         paged.written,
         due as u64,
-    ) & same(b"right entries of a page", s, word, 0, right, entries)
+    ) & same(rt, "right entries of a page", s, word, 0, right, entries)
 }
 
 // The lesser of two numbers.
@@ -309,14 +307,21 @@ fn lesser(a: usize, b: usize) -> usize
 
 // Goes through a shelf by pages, each from where the last one stopped, until none is left and a page writes none. The room takes at least one k-mer,
 // unless the shelf has none. Answers the number of pages; 0 where one differs.
-fn pages_of(s: Settings, word: u64, size: usize, shelf: &Table, room: &mut [u64]) -> u64
+fn pages_of(
+    rt: &HostRuntime,
+    s: Settings,
+    word: u64,
+    size: usize,
+    shelf: &Table,
+    room: &mut [u64],
+) -> u64
     requires { size ≤ 65536 }
 {
     let mut start = 0;
     let mut pages = 0;
     loop {
         let due = lesser(room.len(), size - start);
-        if !page_agrees(s, word, start, due, shelf, room) {
+        if !page_agrees(rt, s, word, start, due, shelf, room) {
             return 0;
         }
         pages += 1;
@@ -342,14 +347,21 @@ fn nth_room(n: u64, size: usize) -> usize
 }
 
 // Goes through a shelf of `size` k-mers with each room. Answers the number of pages; 0 where one differs.
-fn shelf_pages(s: Settings, word: u64, size: usize, shelf: &Table, room: &mut [u64]) -> u64
+fn shelf_pages(
+    rt: &HostRuntime,
+    s: Settings,
+    word: u64,
+    size: usize,
+    shelf: &Table,
+    room: &mut [u64],
+) -> u64
     requires { (size ≤ 65536) × (65536 ≤ length room.old) }
 {
     let mut pages = 0;
     let mut n = 0;
     while n < 4 {
         let each = nth_room(n, size);
-        let more = pages_of(s, word, size, shelf, &mut room[0..each]);
+        let more = pages_of(rt, s, word, size, shelf, &mut room[0..each]);
         if more == 0 {
             return 0;
         }
@@ -360,13 +372,21 @@ fn shelf_pages(s: Settings, word: u64, size: usize, shelf: &Table, room: &mut [u
 }
 
 // Goes through the shelf of a word, by pages. Answers the number of pages; 0 where one differs.
-fn word_pages(s: Settings, word: u64, found: &Table, shelf: &mut Table, room: &mut Table) -> u64 {
+fn word_pages(
+    rt: &HostRuntime,
+    s: Settings,
+    word: u64,
+    found: &Table,
+    shelf: &mut Table,
+    room: &mut Table,
+) -> u64 {
     let size = list(s.k, word, found, shelf);
-    shelf_pages(s, word, size, shelf, room)
+    shelf_pages(rt, s, word, size, shelf, room)
 }
 
 // Goes through the shelves of four words, by pages. Answers the number of pages; 0 where one differs.
 fn shelves_pages(
+    rt: &HostRuntime,
     s: Settings,
     state: u64,
     found: &Table,
@@ -378,7 +398,7 @@ fn shelves_pages(
     let mut n = 0;
     while n < 4 {
         let word = nth_word(n, words, s.key, state);
-        let more = word_pages(s, word, found, shelf, room);
+        let more = word_pages(rt, s, word, found, shelf, room);
         if more == 0 {
             return 0;
         }
@@ -392,21 +412,21 @@ fn shelves_pages(
 
 // Compares all under one key: `found` has the word of each k-mer's vigemin, `tally` the number of k-mers of each word, by the plain loop; then `tally`
 // takes the shelves. Answers the number of pages; 0 where something differs.
-fn compare_key(s: Settings, state: u64) -> u64 {
+fn compare_key(rt: &HostRuntime, s: Settings, state: u64) -> u64 {
     let mut found = [0u64; 65536];
     let mut tally = [0u64; 65536];
-    if !vigemins_agree(s, &mut found, &mut tally) {
+    if !vigemins_agree(rt, s, &mut found, &mut tally) {
         return 0;
     }
-    if !sizes_agree(s, &tally) {
+    if !sizes_agree(rt, s, &tally) {
         return 0;
     }
     let mut room = [NONE; 65536];
-    shelves_pages(s, state, &found, &mut tally, &mut room)
+    shelves_pages(rt, s, state, &found, &mut tally, &mut room)
 }
 
 // Compares all under each key that is tried. Answers the number of pages; 0 where something differs.
-fn compare_keys(k: u64, m: u64) -> u64 {
+fn compare_keys(rt: &HostRuntime, k: u64, m: u64) -> u64 {
     let words = power(m);
     let keys = key_count(words);
     // a start of its own for each k and m
@@ -417,7 +437,7 @@ fn compare_keys(k: u64, m: u64) -> u64 {
         state = advance(state);
         let key = nth_key(n, words, state);
         state = advance(state);
-        let more = compare_key(Settings { k, m, key }, state);
+        let more = compare_key(rt, Settings { k, m, key }, state);
         if more == 0 {
             return 0;
         }
@@ -428,7 +448,7 @@ fn compare_keys(k: u64, m: u64) -> u64 {
 }
 
 // Compares all for a k, and prints its line; whether all agreed. Under each key there are 4^k vigemins and 4^m sizes.
-fn compare(k: u64) -> bool
+fn compare(rt: &HostRuntime, k: u64) -> io::Result<bool>
     requires { k ≤ 8 }
 {
     let mut keys = 0;
@@ -436,9 +456,9 @@ fn compare(k: u64) -> bool
     let mut pages = 0;
     let mut m = 1;
     while m <= k {
-        let more = compare_keys(k, m);
+        let more = compare_keys(rt, k, m);
         if more == 0 {
-            return false;
+            return Ok(false);
         }
         let words = power(m);
         let tried = key_count(words);
@@ -447,16 +467,17 @@ fn compare(k: u64) -> bool
         pages = wrapping_add_u64(pages, more);
         m += 1;
     }
-    print_line(k, keys, keys << (2 * k), sizes, pages);
-    true
+    print_line(rt, k, keys, keys << (2 * k), sizes, pages)?;
+    Ok(true)
 }
 
-fn main() {
+fn main(rt: HostRuntime) -> io::Result<()> {
     let mut k = 1;
     while k <= MOST_LETTERS {
-        if !compare(k) {
-            return;
+        if !compare(&rt, k)? {
+            return Ok(());
         }
         k += 1;
     }
+    Ok(())
 }

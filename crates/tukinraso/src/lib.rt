@@ -1,5 +1,4 @@
-// The foreign forms: what Rust or C links, on plain numbers and slices of bytes. A slice passes as a pointer and a length. Assumes that both are
-// valid, a null pointer only with length 0, and that `seq` and `room` do not overlap (docs/OUTCOMES.md).
+// The foreign forms, on plain numbers and slices of bytes: what the crate `tukinraso_c` exports. Assumes nothing.
 #![tactic(auto)]
 ghost use Rattle.std.specs.Prelude.{◌≡◌, ◌<◌};
 ghost use Rattle.definitions.specs.Outcomes as outcomes;
@@ -18,8 +17,7 @@ fn coded(refusal: u64, place: u64, answer: u64) -> u64
 }
 
 // The scan of a sequence into bytes: each position as four bytes, high first, at the front of the room.
-#[unsafe(no_mangle)]
-pub extern "C" fn tukinraso_scan(k: u64, m: u64, key: u64, seq: &[u8], room: &mut [u8]) -> u64
+pub fn tukinraso_scan(k: u64, m: u64, key: u64, seq: &[u8], room: &mut [u8]) -> u64
     ensures { foreign_scanned result room.new ≡ outcomes.foreign_scan_outcome k m key seq.now room.old }
 {
     let scanned = scans::scan_bytes(k, m, key, seq, room);
@@ -27,8 +25,7 @@ pub extern "C" fn tukinraso_scan(k: u64, m: u64, key: u64, seq: &[u8], room: &mu
 }
 
 // The size of a shelf.
-#[unsafe(no_mangle)]
-pub extern "C" fn tukinraso_size(k: u64, m: u64, key: u64, word: u64) -> u64
+pub fn tukinraso_size(k: u64, m: u64, key: u64, word: u64) -> u64
     ensures { result ≡ outcomes.foreign_size_outcome k m key word }
 {
     let counted = sizes::size(k, m, key, word);
