@@ -1,7 +1,7 @@
 -- `sequences::examine` meets its contract: each return gives the number of the first ground whose test held, and what stands beside it.
 -- Assumes nothing.
 use Prim.Native.Nat.{ℕ, zero, suc, ◌≤◌}
-use mathlib.Core.Bool.{Bool, false, cond, not}
+use mathlib.Core.Bool.{Bool, cond, not}
 use mathlib.Core.List.{List, [], ◌∷◌}
 use mathlib.Core.Path.{◌≡◌, refl, sym, ◌∙◌}
 use native.Mathlib.Omega.{arith}
@@ -18,7 +18,7 @@ use Rattle.laws.specs.Numbers.{first_bad_place-all}
 use Rattle.laws.specs.Refusals.{refusal-append, refusal-most}
 use Rattle.sequences.specs.Answers.{examine_grounds, examine_answer, examine_outcome}
 use Rattle.sequences.proofs.examine.Goals as goal
-use Rattle.sequences.proofs.examine.Goals.{After-window_count-windows, Else-bad-n}
+use Rattle.sequences.proofs.examine.Goals.{After-window_count-windows}
 
 -- beside a refusal stand the place that goes with it and no windows
 refused : (n : ℕ) → (n ≡ 0 → ⊥) → (k : ℕ) (s : List ℕ) {place : ℕ} → place ≡ place_beside n s
@@ -50,9 +50,14 @@ left c e =
     given a.k a.m a.key a.seq.now a.takes c.order_refusal-refusal.ensures
     ∙ rw (c.if-refusal-ne0.false, le-ltb 65536 (length a.seq.now) c.if-n-gt65536.false, e, length-windows, c.window_count-windows.ensures)
 
--- whether letters are bad, where the first bad place is not below the length
-none_bad : (c : goal.Else-bad-n) → not (all is_letter_byte c.args.seq.now) ≡ false
-none_bad c = let f = c.first_bad-bad in bad-letter c.args.seq.now f.ensures (le-ltb f.result (length c.args.seq.now) c.if-bad-n.false)
+-- where the letters are good only the room is left
+left-room : (c : goal.After-window_count-windows) → length c.args.seq.now ≤ c.first_bad-bad.result
+    → (let a = c.args in
+    refusal (examine_grounds a.k a.m a.key a.seq.now a.takes) ≡ cond (ltb a.takes c.window_count-windows.result) 7 0)
+left-room c h =
+    let s = c.args.seq.now in
+    let f = c.first_bad-bad in
+    left c (bad-letter s f.ensures (le-ltb f.result (length s) h))
 
 pub returns-then-refusal-ne0 : goal.returns-then-refusal-ne0
 unfolding examine_outcome
@@ -60,13 +65,22 @@ returns-then-refusal-ne0 c =
     let a = c.args in
     let r = c.order_refusal-refusal.result in
     let low : r ≤ 3 = rw c.order_refusal-refusal.ensures (refusal-most 3 (order_grounds a.k a.m (bad_key a.m a.key)) refl) in
-    rw (given a.k a.m a.key a.seq.now a.takes c.order_refusal-refusal.ensures, ne_eqb r 0 c.if-refusal-ne0.true) (refused r c.if-refusal-ne0.true a.k a.seq.now (rw (ne_eqb r 6 (omega arith))))
+    rw (given a.k a.m a.key a.seq.now a.takes c.order_refusal-refusal.ensures, ne_eqb r 0 c.if-refusal-ne0.true)
+    (refused r c.if-refusal-ne0.true a.k a.seq.now (rw (ne_eqb r 6 (omega arith))))
 
 pub returns-then-n-gt65536 : goal.returns-then-n-gt65536
 unfolding examine_outcome examine_answer
 returns-then-n-gt65536 c =
     let a = c.args in
-    rw (given a.k a.m a.key a.seq.now a.takes c.order_refusal-refusal.ensures, c.if-refusal-ne0.false, lt-ltb 65536 (length a.seq.now) c.if-n-gt65536.true)
+    let e = given a.k a.m a.key a.seq.now a.takes c.order_refusal-refusal.ensures in
+    rw (e, c.if-refusal-ne0.false, lt-ltb 65536 (length a.seq.now) c.if-n-gt65536.true)
+
+pub returns-then-takes-windows : goal.returns-then-takes-windows
+unfolding examine_outcome examine_answer
+returns-then-takes-windows c =
+    let a = c.args in
+    let e = left-room (goal.at.returns-then-takes-windows c).After-window_count-windows (omega arith) in
+    rw (e, lt-ltb a.takes c.window_count-windows.result c.if-takes-windows.true)
 
 pub returns-then-bad-n : goal.returns-then-bad-n
 unfolding examine_outcome
@@ -74,17 +88,13 @@ returns-then-bad-n c =
     let a = c.args in
     let s = a.seq.now in
     let f = c.first_bad-bad in
-    rw (left (goal.at.returns-then-bad-n c).After-window_count-windows (bad-letter s f.ensures (lt-ltb f.result (length s) c.if-bad-n.true))) (refused 6 (λ e. omega arith) a.k s f.ensures)
-
-pub returns-then-takes-windows : goal.returns-then-takes-windows
-unfolding examine_outcome examine_answer
-returns-then-takes-windows c =
-    let a = c.args in
-    rw (left (goal.at.returns-then-takes-windows c).After-window_count-windows (none_bad (goal.at.returns-then-takes-windows c).Else-bad-n), lt-ltb a.takes c.window_count-windows.result c.if-takes-windows.true)
+    let there = bad-letter s f.ensures (lt-ltb f.result (length s) c.if-bad-n.true) in
+    rw (left (goal.at.returns-then-bad-n c).After-window_count-windows there) (refused 6 (λ e. omega arith) a.k s f.ensures)
 
 pub returns : goal.returns
 unfolding examine_outcome examine_answer
 returns c =
     let a = c.args in
     let w = c.window_count-windows in
-    rw (left (goal.at.returns c).After-window_count-windows (none_bad (goal.at.returns c).Else-bad-n), le-ltb a.takes w.result c.if-takes-windows.false, length-windows a.k a.seq.now, w.ensures)
+    let e = left-room (goal.at.returns c).After-window_count-windows (omega arith) in
+    rw (e, le-ltb a.takes w.result c.if-takes-windows.false, length-windows a.k a.seq.now, w.ensures)
