@@ -57,6 +57,7 @@ xor-both a b c = xor_assoc a c (bit_xor b c) ∙ ap (bit_xor a) (rw (xor_comm b 
 
 -- a letter that comes in stands behind the others
 behind-others : (m v c : ℕ) → 0 < m → c < 4 → bit_xor (v * 4 % 4 ^ m) c ≡ (v * 4 + c) % 4 ^ m
+behind-others zero v c k h = elim k [ ]
 behind-others (suc m) v c k h =
     let some : 0 < 4 ^ m = one-le-pow m 4 four-pos in
     rw (pow-suc, mod-mul (v * 4) some four-pos, mod-mul (v * 4 + c) some four-pos, mul-div_cancel v four-pos, mul-mod_left, add-zero, digits_div v h, digits_mod v h)

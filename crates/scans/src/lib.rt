@@ -1,5 +1,6 @@
 // Scans: for each window of a sequence the position of its vigemin in the whole sequence, written as positions or as bytes. Assumes nothing.
 #![tactic(auto)]
+
 ghost use Rattle.std.specs.Prelude.{true, [], ◌∷◌, ◌≡◌, suc, ◌+◌, ◌-◌, ◌*◌, ◌≤◌, ◌<◌, length, drop};
 ghost use Rattle.std.proofs.lemmas.List.Edits.{sets};
 ghost use Rattle.definitions.specs.Words.{is_letter_byte, spelled, bytes};

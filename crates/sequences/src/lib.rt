@@ -1,5 +1,6 @@
 // Sequences: what reading a sequence refuses, and how many windows it has. Assumes nothing.
 #![tactic(auto)]
+
 ghost use Rattle.std.specs.Prelude.{◌≡◌, suc, ◌-◌, ◌≤◌};
 ghost use Rattle.sequences.specs.Answers.{examined, examine_outcome};
 

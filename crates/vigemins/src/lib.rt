@@ -1,5 +1,6 @@
 // Vigemins: the value by which m-mers are compared, and the vigemin of a k-mer. Assumes nothing.
 #![tactic(auto)]
+
 ghost use Rattle.std.specs.Prelude.{◌≡◌};
 ghost use Rattle.std.specs.Int.Bits.{bit_xor};
 ghost use Rattle.definitions.specs.Words.{word as word_of};

@@ -13,31 +13,33 @@ set_table-requires c =
 
 pub fill-word-requires : goal.fill-word-requires
 fill-word-requires c =
-    let start = c in
-    let b = start.requires.readable in
-    (record { tabled = c.set_table.ensures; readable = b.0; inside = omega (arith, b.1) }, start.requires.left)
+    let b = c.requires.readable in
+    record {
+      beginnable = record { tabled = c.set_table.ensures; readable = b.0; inside = omega (arith, b.1) };
+      filled = c.requires.left;
+    }
 
 pub fill-other-requires : goal.fill-other-requires
 fill-other-requires c =
-    let start = c in
-    let b = start.requires.readable in
-    (record { tabled = c.set_table.ensures; readable = b.0; inside = b.1 }, start.requires.right)
+    let b = c.requires.readable in
+    record {
+      beginnable = record { tabled = c.set_table.ensures; readable = b.0; inside = b.1 };
+      filled = c.requires.right;
+    }
 
 pub suffixes-requires : goal.suffixes-requires
 suffixes-requires c =
-    let start = c in
-    let s = start.args.s in
-    let seq = start.args.seq.now in
-    let b = start.requires.readable in
-    (begun-entries s seq b.0 0 (omega (arith, b.1)) c.fill-word.ensures, begun-entries s seq b.0 start.args.from b.1 c.fill-other.ensures)
+    let s = c.args.s in
+    let seq = c.args.seq.now in
+    let b = c.requires.readable in
+    (begun-entries s seq b.0 0 (omega (arith, b.1)) c.fill-word.ensures, begun-entries s seq b.0 c.args.from b.1 c.fill-other.ensures)
 
 pub returns : goal.returns
 returns c =
-    let start = c in
-    let s = start.args.s in
-    let seq = start.args.seq.now in
-    let b = start.requires.readable in
+    let s = c.args.s in
+    let seq = c.args.seq.now in
+    let b = c.requires.readable in
     let f = c.suffixes.ensures in
-    let one = begun-read s seq b.0 0 (omega (arith, b.1)) refl c.fill-word.ensures f.0 in
-    let other = begun-read s seq b.0 start.args.from b.1 (zero-add start.args.from) c.fill-other.ensures f.1 in
-    (c.set_table.ensures, (record { one = one; other = other }, refl))
+    let one = begun-read s seq b.0 0 (omega (arith, b.1)) refl c.fill-word.ensures f.left in
+    let other = begun-read s seq b.0 c.args.from b.1 (zero-add c.args.from) c.fill-other.ensures f.right in
+    record { tabled = c.set_table.ensures; read_both = record { one = one; other = other }; at_start = refl }

@@ -4,16 +4,14 @@ use Prim.Native.Nat.{ℕ, suc, ◌*◌, ◌%◌, ◌≤◌}
 use mathlib.Core.Path.{ap}
 use native.Mathlib.Nat.{mul-le-mul_right}
 use native.Mathlib.Omega.{arith}
-use borrow.Author.Rules.{rules}
 use lib.Bits.{bit_xor}
 use Rattle.scans.specs.Readings.{top}
 use Rattle.scans.proofs.brought.Goals as goal
 
 pub overflow_mul-last : goal.overflow_mul-last
 overflow_mul-last c =
-    let start = c in
-    let low : start.args.letter ≤ 3 = omega (arith, start.requires.1) in
-    omega (arith, mul-le-mul_right start.args.s.side low, start.requires.0.side_few)
+    let low : c.args.letter ≤ 3 = omega (arith, c.requires.1) in
+    omega (arith, mul-le-mul_right c.args.s.side low, c.requires.0.side_few)
 
 pub returns : goal.returns
 returns c =

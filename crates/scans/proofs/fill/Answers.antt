@@ -7,7 +7,6 @@ use native.Mathlib.Omega.{arith}
 use lib.ListN.{get_or, drop}
 use Rattle.definitions.specs.Words.{spelled}
 use Rattle.laws.specs.Rolls.{rolled}
-use Rattle.scans.specs.Readings.{Begun}
 use Rattle.scans.proofs.Letters.{seq-letter, roll-room}
 use Rattle.scans.proofs.Windows.{begun_more}
 use Rattle.scans.proofs.fill.Goals as goal
@@ -24,7 +23,7 @@ pub start-word-requires : goal.start-word-requires
 start-word-requires c = c.requires.beginnable
 
 pub loop-at-init : goal.loop-at-init
-loop-at-init c = c.requires.filled }
+loop-at-init c = record { within = omega arith; rolls = rw add-zero c.start-word.ensures; filled = c.requires.filled }
 
 pub overflow_add-place : goal.overflow_add-place
 overflow_add-place c =
@@ -38,19 +37,17 @@ bounds-seq-place c =
 
 pub roll-word-requires : goal.roll-word-requires
 roll-word-requires c =
-    let start = c in
-    let b = start.requires.beginnable in
-    let place = start.args.from + start.args.s.m - 1 + c.loop-at.at in
-    seq-letter start.args.s start.args.seq.now b.readable place (omega (arith, b.inside, b.readable.prepared.k_is, b.readable.prepared.m_some))
+    let b = c.requires.beginnable in
+    let place = c.args.from + c.args.s.m - 1 + c.loop-at.at in
+    seq-letter c.args.s c.args.seq.now b.readable place (omega (arith, b.inside, b.readable.prepared.k_is, b.readable.prepared.m_some))
 
 pub overflow_add-stamp : goal.overflow_add-stamp
 overflow_add-stamp c =
-    let start = c in
-    let s = start.args.s in
-    let t = start.requires.beginnable.tabled in
+    let s = c.args.s in
+    let t = c.requires.beginnable.tabled in
     let at = c.loop-at in
-    let byte = get_or start.args.seq.now (start.args.from + s.m - 1 + at.at) 0 in
-    let v = rolled s.m (drop start.args.from (spelled start.args.seq.now)) (s.m - 1 + at.at) in
+    let byte = get_or c.args.seq.now (c.args.from + s.m - 1 + at.at) 0 in
+    let v = rolled s.m (drop c.args.from (spelled c.args.seq.now)) (s.m - 1 + at.at) in
     omega (arith, roll-room t byte c.roll-word.ensures v at.invariant.rolls, t.prepared.places_fit)
 
 pub offset_bounds-ring-at : goal.offset_bounds-ring-at
@@ -73,9 +70,8 @@ loop-at-smaller c = omega arith
 
 pub loop-at-preserved : goal.loop-at-preserved
 loop-at-preserved c =
-    let start = c in
-    let b = start.requires.beginnable in
-    begun_more start.args.s start.args.seq.now b.readable start.args.from b.inside c.loop-at.invariant (omega arith) refl (c.roll-word.ensures start.args.s b.tabled)
+    let b = c.requires.beginnable in
+    begun_more c.args.s c.args.seq.now b.readable c.args.from b.inside c.loop-at.invariant (omega arith) refl (c.roll-word.ensures c.args.s b.tabled)
 
 pub returns : goal.returns
 returns c =

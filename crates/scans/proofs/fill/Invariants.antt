@@ -1,15 +1,7 @@
 -- `scans::fill` meets its contract. The loop's invariant: so many m-mers of the window were read. The measure is how many are left.
 -- Assumes nothing.
-use Prim.Native.Nat.{◌+◌, ◌-◌}
-use mathlib.Core.Path.{◌≡◌, refl}
-use native.Mathlib.Nat.{add-zero}
-use native.Mathlib.Omega.{arith}
-use lib.ListN.{get_or, drop}
-use Rattle.definitions.specs.Words.{spelled}
-use Rattle.laws.specs.Rolls.{rolled}
+use Prim.Native.Nat.{◌-◌}
 use Rattle.scans.specs.Readings.{Begun}
-use Rattle.scans.proofs.Letters.{seq-letter, roll-room}
-use Rattle.scans.proofs.Windows.{begun_more}
 use Rattle.scans.proofs.fill.Given as goal
 
 abbrev pub invariant-loop-at : goal.invariant-loop-at

@@ -4,7 +4,6 @@ use Prim.Native.Nat.{ℕ, suc, ◌+◌, ◌-◌, ◌*◌, ◌^◌, ◌≤◌, �
 use mathlib.Core.Path.{◌≡◌, refl, ◌∙◌}
 use native.Mathlib.Nat.{pow-le-pow_right, one-le-pow}
 use native.Mathlib.Omega.{arith}
-use borrow.Author.Rules.{rules}
 use lib.Bits.{and_mask}
 use lib.Pow.{pow-add}
 use Rattle.laws.specs.Accepted.{OrderAccepted}
@@ -63,8 +62,7 @@ module _ {k m key side : ℕ} (a : OrderAccepted k m key) (e : side ≡ power_ou
 
 pub overflow_mul-high : goal.overflow_mul-high
 overflow_mul-high c =
-    let start = c in
-    omega (arith, key-high start.requires c.power-side.ensures, side-some start.requires c.power-side.ensures)
+    omega (arith, key-high c.requires c.power-side.ensures, side-some c.requires c.power-side.ensures)
 
 pub returns : goal.returns
 returns c = set_to c.requires c.power-side.ensures

@@ -5,7 +5,6 @@ use mathlib.Core.List.{List}
 use mathlib.Core.Path.{◌≡◌}
 use native.Mathlib.Nat.{div-one}
 use native.Mathlib.Omega.{arith}
-use borrow.Author.Rules.{rules}
 use lib.ListN.{set, length-set}
 use Rattle.definitions.specs.Words.{bytes}
 use lib.Seq.{sets}
@@ -13,7 +12,8 @@ use Rattle.scans.proofs.put.Goals as goal
 
 -- four stores in a row are the bytes of a number, high first
 stored : (room : List ℕ) (place x : ℕ)
-    → set (set (set (set room place (x / 16777216 % 256)) (suc place) (x / 65536 % 256)) (suc (suc place)) (x / 256 % 256)) (suc (suc (suc place))) (x % 256) ≡ sets room place (bytes 4 x)
+    → set (set (set (set room place (x / 16777216 % 256)) (suc place) (x / 65536 % 256)) (suc (suc place)) (x / 256 % 256)) (suc (suc (suc place))) (x % 256)
+    ≡ sets room place (bytes 4 x)
 stored room place x = rw div-one
 
 pub bounds-room-place-2 : goal.bounds-room-place-2

@@ -1,7 +1,6 @@
 -- `scans::put_both` meets its contract: the bytes of two positions are put, one after the other.
 -- Assumes nothing.
 use mathlib.Core.Path.{◌∙◌}
-use borrow.Author.Rules.{rules}
 use Rattle.scans.proofs.Windows.{both-positions}
 use Rattle.scans.proofs.put_both.Goals as goal
 
@@ -16,11 +15,10 @@ position-requires-2 c =
     record { seq = t.seq; readable = t.readable; minima = t.read.other.minima }
 
 pub shape_of-room : goal.shape_of-room
-shape_of-room c = c.put-2.auto.1.1.0 ∙ c.put.auto.1.1.0
+shape_of-room c = c.put-2.auto.room ∙ c.put.auto.room
 
 pub returns : goal.returns
 returns c =
-    let start = c in
     λ seq a d.
-    let known = both-positions start.args.s seq a d start.requires.last c.position.ensures c.position-2.ensures in
+    let known = both-positions c.args.s seq a d c.requires.last c.position.ensures c.position-2.ensures in
     c.put-2.ensures ∙ rw (c.put.ensures, known.0, known.1)

@@ -5,7 +5,6 @@ use mathlib.Core.Bool.{true}
 use mathlib.Core.List.{List}
 use mathlib.Core.Path.{◌≡◌, refl, sym, ap, ◌∙◌}
 use native.Mathlib.Omega.{arith}
-use borrow.Author.Rules.{rules}
 use borrow.Author.Tests.{ltb-true}
 use lib.Dec.{ltb}
 use lib.ListN.{get_or}
@@ -24,7 +23,8 @@ module _ (byte : ℕ) (e : is_letter_byte byte ≡ true) where
   -- the table has a place for the byte
   small : byte < 85
   small =
-      let b : get_or capitals (letter_of byte) 0 < 85 = ltb-true (get_or capitals (letter_of byte) 0) 85 (each-letter (λ a. ltb (get_or capitals a 0) 85) refl letter) in
+      let b : get_or capitals (letter_of byte) 0 < 85 =
+      ltb-true (get_or capitals (letter_of byte) 0) 85 (each-letter (λ a. ltb (get_or capitals a 0) 85) refl letter) in
       omega (arith, letter-written {c = byte} e)
 
   -- what stands there

@@ -4,7 +4,6 @@ use Prim.Native.Nat.{ℕ, zero, suc, ◌<◌}
 use mathlib.Core.List.{List}
 use mathlib.Core.Path.{◌≡◌, ◌∙◌}
 use native.Mathlib.Omega.{arith}
-use borrow.Author.Rules.{rules}
 use lib.ListN.{length, get_or, set, length-set}
 use lib.Seq.{get_or-set_same, get_or-set_other}
 use Rattle.definitions.specs.Words.{capitals}
@@ -38,5 +37,4 @@ tabled s t p e a b c d =
 
 pub returns : goal.returns
 returns c =
-    let start = c in
-    tabled start.args.s start.args.table.now start.requires.0 start.requires.1 c.brought.ensures c.brought-2.ensures c.brought-3.ensures c.brought-4.ensures
+    tabled c.args.s c.args.table.now c.requires.0 c.requires.1 c.brought.ensures c.brought-2.ensures c.brought-3.ensures c.brought-4.ensures

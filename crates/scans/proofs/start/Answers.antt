@@ -37,8 +37,7 @@ bounds-seq-place c = inside (goal.at.bounds-seq-place c).In-loop-i
 
 pub roll-word-requires : goal.roll-word-requires
 roll-word-requires c =
-    let start = c in
-    seq-letter start.args.s start.args.seq.now start.requires.readable (start.args.from + c.loop-i.i) (inside (goal.at.roll-word-requires c).In-loop-i)
+    seq-letter c.args.s c.args.seq.now c.requires.readable (c.args.from + c.loop-i.i) (inside (goal.at.roll-word-requires c).In-loop-i)
 
 pub overflow_add-i-in-loop-i : goal.overflow_add-i-in-loop-i
 overflow_add-i-in-loop-i c =
@@ -50,14 +49,13 @@ loop-i-smaller c = omega arith
 
 pub loop-i-preserved : goal.loop-i-preserved
 loop-i-preserved c =
-    let start = c in
     let at = c.loop-i in
-    let s = start.args.s in
-    let from = start.args.from in
-    let seq = start.args.seq.now in (
+    let s = c.args.s in
+    let from = c.args.from in
+    let seq = c.args.seq.now in (
       omega arith,
-      c.roll-word.ensures s start.requires.tabled (rolled s.m (drop from (spelled seq)) at.i) at.invariant.1
-          ∙ rw add-one (ap (keyed_word s) (letter-read s seq start.requires.readable from at.i refl (inside (goal.at.loop-i-preserved c).In-loop-i))),
+      c.roll-word.ensures s c.requires.tabled (rolled s.m (drop from (spelled seq)) at.i) at.invariant.1
+          ∙ rw add-one (ap (keyed_word s) (letter-read s seq c.requires.readable from at.i refl (inside (goal.at.loop-i-preserved c).In-loop-i))),
     )
 
 pub returns : goal.returns

@@ -1,15 +1,11 @@
 -- `scans::start` meets its contract. The loop's invariant: the word is that of the letters passed. The measure is how many are left.
 -- Assumes nothing.
-use Prim.Native.Nat.{◌+◌, ◌-◌, ◌<◌}
-use mathlib.Core.Path.{◌≡◌, refl, ap, ◌∙◌}
-use native.Mathlib.Numerals.{add-one}
-use native.Mathlib.Omega.{arith}
-use lib.ListN.{length, drop}
+use Prim.Native.Nat.{◌-◌, ◌<◌}
+use mathlib.Core.Path.{◌≡◌}
+use lib.ListN.{drop}
 use Rattle.definitions.specs.Words.{spelled}
 use Rattle.laws.specs.Rolls.{rolled}
 use Rattle.scans.specs.Readings.{keyed_word}
-use Rattle.scans.proofs.Keys.{keyed-none}
-use Rattle.scans.proofs.Letters.{seq-letter, letter-read}
 use Rattle.scans.proofs.start.Given as goal
 
 abbrev pub invariant-loop-i : goal.invariant-loop-i

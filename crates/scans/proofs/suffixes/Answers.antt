@@ -1,14 +1,13 @@
 -- `scans::suffixes` meets its contract. The loop's invariant: from i on, each entry of a ring is the least of those from its place on, and the
 -- others are as they were. The measure is i.
 -- Assumes nothing.
-use Prim.Native.Nat.{ℕ, suc, ◌-◌, ◌≤◌, ◌<◌, min}
+use Prim.Native.Nat.{ℕ, suc, ◌-◌, ◌<◌, min}
 use mathlib.Core.List.{List}
-use mathlib.Core.Logic.{◌⊎◌, inl, inr, ⊎_elim}
+use mathlib.Core.Logic.{inl, inr, ⊎_elim}
 use mathlib.Core.Path.{◌≡◌, refl, sym, ◌∙◌}
 use native.Mathlib.Omega.{arith}
 use native.Mathlib.Nat.{min-eq_left}
-use borrow.Author.Rules.{rules}
-use lib.ListN.{length, get_or, set, take, drop, length-set}
+use lib.ListN.{get_or, set, take, drop, length-set}
 use lib.Seq.{drop-cons, get_or-set_other}
 use Rattle.laws.specs.Rooms.{set_holds}
 use Rattle.laws.specs.Stamps.{lowest}
@@ -18,7 +17,8 @@ use Rattle.scans.proofs.suffixes.Goals as goal
 
 module _ (width : ℕ) (old : List ℕ) (given : Entries width old) where
   -- the least from a place on, with the entry there
-  least_first : (q : ℕ) → q < width → lowest top (take (width - q) (drop q old)) ≡ min (get_or old q 0) (lowest top (take (width - suc q) (drop (suc q) old)))
+  least_first : (q : ℕ) → q < width
+      → lowest top (take (width - q) (drop q old)) ≡ min (get_or old q 0) (lowest top (take (width - suc q) (drop (suc q) old)))
   least_first q h =
       let n : width - q ≡ suc (width - suc q) = omega arith in
       rw (n, drop-cons old q 0 (omega (arith, given.full, given.few)))
@@ -40,13 +40,15 @@ module _ (width : ℕ) (old : List ℕ) (given : Entries width old) where
           sym (least_first q (omega arith) ∙ rw none (min-eq_left (given.below q (omega arith))))
 
   -- one entry more is turned
-  more : {ring : List ℕ} {i j least v : ℕ} → suc i ≡ j → From width old ring j least → v ≡ min (get_or ring i 0) least → From width old (set ring i v) i v
+  more : {ring : List ℕ} {i j least v : ℕ} → suc i ≡ j → From width old ring j least → v ≡ min (get_or ring i 0) least
+      → From width old (set ring i v) i v
   more {ring} {i} {j} {least} {v} n f e =
       record {
         inside = omega (arith, f.inside);
         now = there;
         turned = λ q h k. set_holds ring i q (omega (arith, f.full, f.inside, given.few)) (λ l. rw l there) (λ o. f.turned q (omega (arith, o)) k);
-        others = λ q h. get_or-set_other ring i q v 0 (λ l. ⊎_elim (λ a. omega arith) (λ a. omega (arith, f.inside)) h) ∙ f.others q (⊎_elim (λ a. inl (omega arith)) inr h);
+        others = λ q h. get_or-set_other ring i q v 0 (λ l. ⊎_elim (λ a. omega arith) (λ a. omega (arith, f.inside)) h)
+            ∙ f.others q (⊎_elim (λ a. inl (omega arith)) inr h);
         full = length-set ring i v ∙ f.full;
       }
     where
@@ -65,8 +67,7 @@ bounds-right-i c = omega (arith, c.requires.0.few)
 
 pub loop-i-init : goal.loop-i-init
 loop-i-init c =
-    let start = c in
-    (begun start.args.width start.args.left.now start.requires.0, begun start.args.width start.args.right.now start.requires.1)
+    (begun c.args.width c.args.left.now c.requires.0, begun c.args.width c.args.right.now c.requires.1)
 
 pub bounds-left-i-in-loop-i : goal.bounds-left-i-in-loop-i
 bounds-left-i-in-loop-i c = omega (arith, c.loop-i.invariant.0.inside, c.requires.0.few)
@@ -83,14 +84,17 @@ bounds-right-i-in-loop-i-2 c = omega (arith, c.loop-i.invariant.0.inside, c.requ
 pub loop-i-preserved : goal.loop-i-preserved
 loop-i-preserved c =
     let at = c.loop-i in
-    let start = c in
-    let width = start.args.width in
-    let next : suc (at.i - 1) ≡ at.i = omega (arith, c.loop-i-test.true) in
-    (more width start.args.left.now start.requires.0 next at.invariant.0 c.lesser-least.ensures, more width start.args.right.now start.requires.1 next at.invariant.1 c.lesser-other.ensures)
+    let width = c.args.width in
+    let next : suc (at.i - 1) ≡ at.i = omega (arith, c.loop-i-test.true) in (
+      more width c.args.left.now c.requires.0 next at.invariant.0 c.lesser-least.ensures,
+      more width c.args.right.now c.requires.1 next at.invariant.1 c.lesser-other.ensures,
+    )
 
 pub returns : goal.returns
 returns c =
     let at = c.loop-i in
-    let start = c in
     let end : at.i ≡ 0 = omega arith in
-    (done start.args.width start.args.left.now start.requires.0 (rw end at at.invariant.0), done start.args.width start.args.right.now start.requires.1 (rw end at at.invariant.1))
+    record {
+      left = done c.args.width c.args.left.now c.requires.0 (rw end at at.invariant.0);
+      right = done c.args.width c.args.right.now c.requires.1 (rw end at at.invariant.1);
+    }

@@ -1,18 +1,13 @@
 -- `scans::suffixes` meets its contract. The loop's invariant: from i on, each entry of a ring is the least of those from its place on, and the
 -- others are as they were. The measure is i.
 -- Assumes nothing.
-use Prim.Native.Nat.{ℕ, suc, ◌-◌, ◌≤◌, ◌<◌, min}
+use Prim.Native.Nat.{ℕ, ◌-◌, ◌≤◌, ◌<◌}
 use mathlib.Core.List.{List}
-use mathlib.Core.Logic.{◌⊎◌, inl, inr, ⊎_elim}
-use mathlib.Core.Path.{◌≡◌, refl, sym, ◌∙◌}
-use native.Mathlib.Omega.{arith}
-use native.Mathlib.Nat.{min-eq_left}
-use borrow.Author.Rules.{rules}
-use lib.ListN.{length, get_or, set, take, drop, length-set}
-use lib.Seq.{drop-cons, get_or-set_other}
-use Rattle.laws.specs.Rooms.{set_holds}
+use mathlib.Core.Logic.{◌⊎◌}
+use mathlib.Core.Path.{◌≡◌}
+use lib.ListN.{length, get_or, take, drop}
 use Rattle.laws.specs.Stamps.{lowest}
-use Rattle.scans.specs.Readings.{top, Entries, Suffixes}
+use Rattle.scans.specs.Readings.{top}
 use Rattle.scans.proofs.suffixes.Given as goal
 
 -- the ring with the entries from i on turned

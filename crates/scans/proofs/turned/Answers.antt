@@ -7,26 +7,27 @@ use Rattle.scans.proofs.turned.Goals as goal
 
 pub suffixes-requires : goal.suffixes-requires
 suffixes-requires c =
-    let start = c in
-    let t = start.requires in
-    let whole : start.args.r.at ≡ start.args.s.width = omega arith in
-    (whole-entries start.args.s t.seq t.readable whole t.read.one, whole-entries start.args.s t.seq t.readable whole t.read.other)
+    let t = c.requires in
+    let whole : c.args.r.at ≡ c.args.s.width = omega arith in
+    (whole-entries c.args.s t.seq t.readable whole t.read.one, whole-entries c.args.s t.seq t.readable whole t.read.other)
 
 pub overflow_add-block : goal.overflow_add-block
 overflow_add-block c =
-    let start = c in
-    let t = start.requires in
-    omega (arith, block_inside start.args.s t.seq t.readable t.read.one, t.readable.short, t.readable.prepared.k_is, t.readable.prepared.k_few)
+    let t = c.requires in
+    omega (arith, block_inside c.args.s t.seq t.readable t.read.one, t.readable.short, t.readable.prepared.k_is, t.readable.prepared.k_few)
 
 pub returns-then-r-s : goal.returns-then-r-s
 returns-then-r-s c =
-    let start = c in
-    let s = start.args.s in
+    let s = c.args.s in
     let f = c.suffixes.ensures in
-    let whole : start.args.r.at ≡ s.width = omega arith in
+    let whole : c.args.r.at ≡ s.width = omega arith in
     record {
-      read = λ seq from a d. record { one = turn-read s seq a whole (omega arith) f.0 d.one; other = turn-read s seq a whole (omega arith) f.1 d.other };
-      inside = start.requires.readable.prepared.wide;
+      read = λ seq from a d.
+          record {
+            one = turn-read s seq a whole (omega arith) f.left d.one;
+            other = turn-read s seq a whole (omega arith) f.right d.other;
+          };
+      inside = c.requires.readable.prepared.wide;
       same = omega arith;
     }
 

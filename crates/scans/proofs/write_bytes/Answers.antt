@@ -1,7 +1,6 @@
 -- `scans::write_bytes` meets its contract. The loop's invariant: each run has read its window i and written the bytes for those before it.
 -- The measure is how many windows are left.
 -- Assumes nothing.
-use Prim.Native.Nat.{◌-◌}
 use mathlib.Core.Path.{◌∙◌}
 use native.Mathlib.Omega.{arith}
 use Rattle.definitions.specs.Words.{bytes}
@@ -9,7 +8,7 @@ use Rattle.definitions.specs.Outcomes.{as_bytes}
 use Rattle.scans.specs.Readings.{positions_of}
 use Rattle.scans.proofs.Rooms.{Layout, bytes-laid}
 use Rattle.scans.proofs.Windows.{begins, length-positions, next_place}
-use Rattle.scans.proofs.Writes.{Writing, writing-first, puttable, writing-all, writing-next}
+use Rattle.scans.proofs.Writes.{writing-first, puttable, writing-all, writing-next}
 use Rattle.scans.proofs.write_bytes.Goals as goal
 use Rattle.scans.proofs.write_bytes.Goals.{Start}
 
@@ -26,7 +25,9 @@ pub overflow_sub-from : goal.overflow_sub-from
 overflow_sub-from c = omega (arith, c.requires.some)
 
 pub begin-r-requires : goal.begin-r-requires
-begin-r-requires c = begins c.requires
+begin-r-requires c =
+    let b = begins c.requires in
+    record { readable = b.0; left = b.1.0; right = b.1.1 }
 
 pub loop-i-init : goal.loop-i-init
 loop-i-init c = writing-first c.requires (layout (goal.at.loop-i-init c).Start) c.begin-r.ensures.read_both c.begin-r.ensures.at_start
@@ -40,7 +41,7 @@ overflow_add-i c =
     omega (arith, w.all, w.readable.short, c.loop-i.invariant.reached.within)
 
 pub shape_of-room-then-i-half : goal.shape_of-room-then-i-half
-shape_of-room-then-i-half c = c.put_both.auto.1.1.1.1.1.1.0 ∙ c.loop-i.invariant.long
+shape_of-room-then-i-half c = c.put_both.auto.room ∙ c.loop-i.invariant.long
 
 pub returns-then-i-half : goal.returns-then-i-half
 returns-then-i-half c = writing-all c.requires (layout (goal.at.returns-then-i-half c).Start) c.loop-i.invariant c.put_both.ensures c.if-i-half.true
@@ -57,7 +58,7 @@ pub next_windows-r-requires : goal.next_windows-r-requires
 next_windows-r-requires c =
     let w = c.requires in
     let at = c.loop-i.invariant.reached in
-    ((c.begin-r.ensures.tabled, w.readable), (at.read, next_place w at c.if-i-half.false))
+    record { tabled = (c.begin-r.ensures.tabled, w.readable); read_both = at.read; next_place = next_place w at c.if-i-half.false }
 
 pub loop-i-smaller : goal.loop-i-smaller
 loop-i-smaller c = omega (arith, c.loop-i.invariant.reached.within)
@@ -66,4 +67,5 @@ pub loop-i-preserved : goal.loop-i-preserved
 loop-i-preserved c =
     let put = c.put_both in
     let next = c.next_windows-r.ensures in
-    writing-next c.requires (layout (goal.at.loop-i-preserved c).Start) c.loop-i.invariant put.ensures c.if-i-half.false put.auto.1.1.1.1.1.1.0 next.0 next.1
+    let laid = layout (goal.at.loop-i-preserved c).Start in
+    writing-next c.requires laid c.loop-i.invariant put.ensures c.if-i-half.false put.auto.room next.read next.one_on

@@ -2,18 +2,13 @@
 -- The measure is how many windows are left.
 -- Assumes nothing.
 use Prim.Native.Nat.{◌-◌}
-use mathlib.Core.Path.{◌∙◌}
-use native.Mathlib.Omega.{arith}
-use Rattle.definitions.specs.Words.{bytes}
 use Rattle.definitions.specs.Outcomes.{as_bytes}
 use Rattle.scans.specs.Readings.{positions_of}
-use Rattle.scans.proofs.Rooms.{Layout, bytes-laid}
-use Rattle.scans.proofs.Windows.{begins, length-positions, next_place}
-use Rattle.scans.proofs.Writes.{Writing, writing-first, puttable, writing-all, writing-next}
+use Rattle.scans.proofs.Writes.{Writing}
 use Rattle.scans.proofs.write_bytes.Given as goal
 
 abbrev pub invariant-loop-i : goal.invariant-loop-i
-invariant-loop-i l = 
+invariant-loop-i l =
     Writing l.s l.seq l.windows 4 (as_bytes (positions_of l.s l.seq)) l.initial.room l.i l.r l.left l.right l.room
 
 abbrev pub decreases-loop-i : goal.decreases-loop-i

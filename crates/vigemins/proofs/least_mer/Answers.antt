@@ -3,12 +3,10 @@
 -- Assumes nothing.
 use Prim.Native.Nat.{ℕ, suc, ◌+◌, ◌-◌, ◌*◌, ◌/◌, ◌^◌, ◌≤◌, ◌<◌}
 use mathlib.Core.Bool.{Bool, true, false, cond}
-use mathlib.Core.Logic.{⊎_elim}
 use mathlib.Core.Path.{◌≡◌, sym, ap, ◌∙◌}
 use native.Mathlib.Nat.{one-le-pow, sub-zero}
 use native.Mathlib.Numerals.{add-one}
 use native.Mathlib.Omega.{arith}
-use borrow.Author.Rules.{rules}
 use borrow.Author.Tests.{le-leb, lt-leb}
 use lib.Bits.{bit_and, bit_xor}
 use lib.Dec.{leb}
@@ -24,6 +22,7 @@ use Rattle.laws.specs.Accepted.{VigeminAccepted}
 use Rattle.powers.specs.Powers.{power_outcome, power-four}
 use Rattle.vigemins.proofs.least_mer.Invariants.{Passed}
 use Rattle.vigemins.proofs.least_mer.Goals as goal
+use Rattle.vigemins.proofs.least_mer.Goals.{then-other-least, else-other-least}
 
 module _ {k m key kmer power : ℕ} (a : VigeminAccepted k m key kmer) (e : power ≡ power_outcome m) where
   -- the k-mer's letters
@@ -110,19 +109,18 @@ loop-p-init c = rw c.value-least.ensures (rw sub-zero at (passed_first c.require
 pub loop-p-preserved : goal.loop-p-preserved
 loop-p-preserved c =
     let at = c.loop-p in
-    let power = c in
-    let args = power.args in
-    let h : at.p + args.m ≤ args.k = omega arith in
+    let h : at.p + c.args.m ≤ c.args.k = omega arith in
     let other = c.value-other.ensures in
     rw add-one
-    (⊎_elim
-    (λ w. rw (w.1, w.2, w.3, other) (passed-moves power.requires power.power-mask.ensures at.p h at.invariant (rw other at w.0.taken)))
-    (λ w. rw (w.1, w.2, w.3) (passed-stays power.requires power.power-mask.ensures at.p h at.invariant (rw other at w.0.left)))
-    c.if-other-least.branch)
+    elim c.if-other-least.branch [
+      | then-other-least w ↦ rw (w.word-is, w.least-is, w.position-is, other)
+          (passed-moves c.requires c.power-mask.ensures at.p h at.invariant (rw other at w.if-other-least.true))
+      | else-other-least w ↦ rw (w.word-is, w.least-is, w.position-is)
+          (passed-stays c.requires c.power-mask.ensures at.p h at.invariant (rw other at w.if-other-least.false))
+    ]
 
 pub returns : goal.returns
 unfolding vigemin_answer
 returns c =
-    let power = c in
-    let found = passed-all power.requires power.power-mask.ensures c.loop-p.invariant (omega arith) in
+    let found = passed-all c.requires c.power-mask.ensures c.loop-p.invariant (omega arith) in
     rw (found.0, found.1)

@@ -1,27 +1,12 @@
 -- `vigemins::least_mer` meets its contract. The loop's invariant: of the first p m-mers the least is held, with its value and its position.
 -- The measure is how many m-mers are left.
 -- Assumes nothing.
-use Prim.Native.Nat.{ℕ, suc, ◌+◌, ◌-◌, ◌*◌, ◌/◌, ◌^◌, ◌≤◌, ◌<◌}
-use mathlib.Core.Bool.{Bool, true, false, cond}
-use mathlib.Core.Logic.{⊎_elim}
-use mathlib.Core.Path.{◌≡◌, sym, ap, ◌∙◌}
-use native.Mathlib.Nat.{one-le-pow, sub-zero}
-use native.Mathlib.Numerals.{add-one}
-use native.Mathlib.Omega.{arith}
-use borrow.Author.Rules.{rules}
-use borrow.Author.Tests.{le-leb, lt-leb}
-use lib.Bits.{bit_and, bit_xor}
-use lib.Dec.{leb}
+use Prim.Native.Nat.{ℕ, suc, ◌+◌, ◌-◌, ◌≤◌, ◌<◌}
+use mathlib.Core.Path.{◌≡◌}
 use lib.ListN.{length, get_or, take, drop}
-use lib.Seq.{take_all, take-suc}
 use Rattle.definitions.specs.Words.{Word, val, word as word_of}
-use Rattle.definitions.specs.Vigemins.{keyed, least_place, vigemin, vigemin_at}
-use Rattle.definitions.specs.Outcomes.{vigemin_answer}
-use Rattle.laws.specs.Numbers.{four-pos, length_digits, digits-below, window-cut}
-use Rattle.laws.specs.Minima.{length-values, least_more, vigemin-word}
-use Rattle.laws.specs.Rolls.{values, value-mer}
-use Rattle.laws.specs.Accepted.{VigeminAccepted}
-use Rattle.powers.specs.Powers.{power_outcome, power-four}
+use Rattle.definitions.specs.Vigemins.{least_place}
+use Rattle.laws.specs.Rolls.{values}
 use Rattle.vigemins.proofs.least_mer.Given as goal
 
 -- what is held of the first p m-mers of a word: the least of them, its value and its position

@@ -2,14 +2,13 @@
 -- Assumes nothing.
 use Prim.Native.Nat.{ℕ, zero, suc}
 use mathlib.Core.Path.{◌≡◌, refl, sym, ◌∙◌}
-use borrow.Author.Rules.{rules}
 use Rattle.definitions.specs.Words.{Word}
 use Rattle.definitions.specs.Vigemins.{Form}
 use Rattle.definitions.specs.Refusals.{refusal}
 use Rattle.definitions.specs.Outcomes.{vigemin_grounds, vigemin_answer, vigemin_outcome}
 use Rattle.laws.specs.Accepted.{word-accepted}
 use Rattle.vigemins.proofs.vigemin.Goals as goal
-use Rattle.vigemins.proofs.vigemin.Goals.{After-word_refusal-refusal, Else-refusal-ne0}
+use Rattle.vigemins.proofs.vigemin.Goals.{Else-refusal-ne0}
 
 -- beside a refusal stand zeros
 refused : (r : ℕ) → (r ≡ 0 → ⊥) → (f : Form) (m : ℕ) (x : Word) → record { refusal = r; word = 0; position = 0 } ≡ vigemin_answer r f m x
@@ -17,18 +16,13 @@ unfolding vigemin_answer
 refused zero h f m x = absurd (h refl)
 refused (suc r) h f m x = refl
 
--- the refusal is that of the k-mer
-given : (c : goal.After-word_refusal-refusal)
-    → let args = c.args in c.word_refusal-refusal.result ≡ refusal (vigemin_grounds args.k args.m args.key args.kmer)
-given c = c.word_refusal-refusal.ensures
-
 -- where the refusal is 0, nothing is refused
 none : (c : goal.Else-refusal-ne0) → let args = c.args in refusal (vigemin_grounds args.k args.m args.key args.kmer) ≡ 0
-none c = sym (given c) ∙ c.if-refusal-ne0.false
+none c = sym c.word_refusal-refusal.ensures ∙ c.if-refusal-ne0.false
 
 pub returns-then-refusal-ne0 : goal.returns-then-refusal-ne0
 unfolding vigemin_outcome
-returns c = rw (← given (goal.at.returns-then-refusal-ne0 c).After-word_refusal-refusal) (refused c.word_refusal-refusal.result c.if-refusal-ne0.true _ _ _)
+returns-then-refusal-ne0 c = rw (← c.word_refusal-refusal.ensures) (refused c.word_refusal-refusal.result c.if-refusal-ne0.true _ _ _)
 
 pub least_mer-requires : goal.least_mer-requires
 least_mer-requires c =
@@ -37,4 +31,4 @@ least_mer-requires c =
 
 pub returns : goal.returns
 unfolding vigemin_outcome
-returns-2 c = rw (none (goal.at.returns c).Else-refusal-ne0) c.least_mer.ensures
+returns c = rw (none (goal.at.returns c).Else-refusal-ne0) c.least_mer.ensures
