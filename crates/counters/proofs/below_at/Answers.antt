@@ -1,13 +1,9 @@
 -- `counters::below_at` meets its contract. The loop's invariant: no R(i,j) that it passed is below. The measure is how many are left.
 -- Assumes nothing.
-use Prim.Native.Nat.{suc, ◌-◌}
 use mathlib.Core.Path.{sym, ◌∙◌}
 use native.Mathlib.Omega.{arith}
 use borrow.Author.Tests.{eq-eqb, ne_eqb}
-use Rattle.definitions.specs.Words.{word as word_of}
-use Rattle.laws.specs.Orders.{key_ranking}
-use Rattle.counters.proofs.Searches.{Searched, searched-first, searched-more, searched-found, searched-none}
-use Rattle.counters.specs.Settings.{low_at}
+use Rattle.counters.proofs.Searches.{searched-first, searched-more, searched-found, searched-none}
 use Rattle.counters.proofs.Tests.{low-tested}
 use Rattle.counters.proofs.below_at.Goals as goal
 
@@ -15,7 +11,7 @@ pub loop-j-init : goal.loop-j-init
 loop-j-init c = searched-first (omega arith)
 
 pub compared-requires : goal.compared-requires
-compared-requires c = (c.requires.set_to, omega (arith, c.loop-j.invariant.from))
+compared-requires c = record { set_to = c.requires.set_to; in_range = omega (arith, c.loop-j.invariant.from) }
 
 pub returns-then-compared-eq-BELOW : goal.returns-then-compared-eq-BELOW
 returns-then-compared-eq-BELOW c =
