@@ -19,7 +19,7 @@ pub entry-requires-4 : goal.entry-requires-4
 entry-requires-4 c = c.requires.small
 
 pub put-requires : goal.put-requires
-put-requires c = c.requires in (pre.to, pre.long)
+put-requires c = (c.requires.to, c.requires.long)
 
 pub returns : goal.returns
 returns c =

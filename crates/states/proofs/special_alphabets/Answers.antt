@@ -17,7 +17,7 @@ use Rattle.definitions.specs.Words.{Word, letters, word as word_of}
 use Rattle.laws.specs.Numbers.{four-pos, length_digits, digits-below, letter-cut}
 use Rattle.laws.specs.Orders.{Ranking, key_ranking, keyed-one-to-one}
 use Rattle.states.specs.Grids.{grid, length-grid}
-use Rattle.states.specs.Tables.{mark_of, own_of, mark_at, Unlinked, unlinked-first}
+use Rattle.states.specs.Tables.{mark_of, own_of, mark_at, unlinked-first}
 use Rattle.states.proofs.Rows.{written, written_all, write-entry, write-row}
 use Rattle.states.proofs.special_alphabets.Invariants.{Marked}
 use Rattle.states.proofs.special_alphabets.Goals as goal
@@ -96,7 +96,7 @@ pub overflow_sub-shift-in-loop-p : goal.overflow_sub-shift-in-loop-p
 overflow_sub-shift-in-loop-p c = (here (goal.at.overflow_sub-shift-in-loop-p c).In-loop-p).below
 
 pub overflow_mul-shift : goal.overflow_mul-shift
-overflow_mul-shift c = (here (goal.at.overflow_mul-shift c).In-loop-p).ranges
+overflow_mul-shift c = (here (goal.at.overflow_mul-shift c).In-loop-p).fits
 
 pub overflow_shr-letter : goal.overflow_shr-letter
 overflow_shr-letter c = (here (goal.at.overflow_shr-letter c).In-loop-p).shift
