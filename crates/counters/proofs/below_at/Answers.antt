@@ -16,8 +16,7 @@ compared-requires c = record { set_to = c.requires.set_to; in_range = omega (ari
 pub returns-then-compared-eq-BELOW : goal.returns-then-compared-eq-BELOW
 returns-then-compared-eq-BELOW c =
     let at = c.loop-j in
-    let start = c in
-    sym (searched-found at.invariant (omega arith) (low-tested _ _ start.args.i at.j at.invariant.from c.compared.ensures (omega arith) ∙ eq-eqb c.compared.result 0 (omega arith)))
+    sym (searched-found at.invariant (omega arith) (low-tested _ _ c.args.i at.j at.invariant.from c.compared.ensures (omega arith) ∙ eq-eqb c.compared.result 0 (omega arith)))
 
 pub overflow_add-j : goal.overflow_add-j
 overflow_add-j c = omega (arith, c.requires.set_to.few)
@@ -28,8 +27,7 @@ loop-j-smaller c = omega arith
 pub loop-j-preserved : goal.loop-j-preserved
 loop-j-preserved c =
     let at = c.loop-j in
-    let start = c in
-    searched-more at.invariant (omega arith) (low-tested _ _ start.args.i at.j at.invariant.from c.compared.ensures (omega arith) ∙ ne_eqb c.compared.result 0 (omega arith))
+    searched-more at.invariant (omega arith) (low-tested _ _ c.args.i at.j at.invariant.from c.compared.ensures (omega arith) ∙ ne_eqb c.compared.result 0 (omega arith))
 
 pub returns : goal.returns
 returns c = sym (searched-none c.loop-j.invariant (omega arith))

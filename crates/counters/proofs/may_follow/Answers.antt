@@ -63,6 +63,5 @@ loop-j-preserved c =
 
 pub returns : goal.returns
 returns c =
-    let first = c in
-    let args = first.args in
-    not-hindered _ _ args.i args.letter first.letter_sign.ensures first.if-letter_sign-ne-ABOVE.false (searched-none c.loop-j.invariant (omega arith))
+    let args = c.args in
+    not-hindered _ _ args.i args.letter c.letter_sign.ensures c.if-letter_sign-ne-ABOVE.false (searched-none c.loop-j.invariant (omega arith))
