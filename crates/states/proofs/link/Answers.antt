@@ -23,6 +23,5 @@ put-requires c = (c.requires.to, c.requires.long)
 
 pub returns : goal.returns
 returns c =
-    let last = c in
     c.put.ensures
-    ∙ rw (← last.row-fallen.ensures, last.entry.ensures, last.entry-2.ensures, last.entry-3.ensures, last.entry-4.ensures)
+    ∙ rw (← c.row-fallen.ensures, c.entry.ensures, c.entry-2.ensures, c.entry-3.ensures, c.entry-4.ensures)

@@ -121,33 +121,30 @@ loop-p-smaller c = (here (goal.at.loop-p-smaller c).In-loop-p).less
 
 pub loop-p-preserved : goal.loop-p-preserved
 loop-p-preserved c =
-    let start = c in
     let at = c.loop-p in
     let place = here (goal.at.loop-p-preserved c).In-loop-p in
-    let m = start.args.m in
-    let letter = letter-cut m start.args.word at.p (m - 1 - at.p) place.whole in
-    let key_letter = letter-cut m start.args.key at.p (m - 1 - at.p) place.whole in
-    let last = c in
-    let row = marks-at m start.args.key start.args.word at.p c.loop-p-test.true letter key_letter
-    last.sign.ensures last.sign-in-loop-p.ensures last.sign-in-loop-p-2.ensures last.sign-in-loop-p-3.ensures in
+    let m = c.args.m in
+    let letter = letter-cut m c.args.word at.p (m - 1 - at.p) place.whole in
+    let key_letter = letter-cut m c.args.key at.p (m - 1 - at.p) place.whole in
+    let row = marks-at m c.args.key c.args.word at.p c.loop-p-test.true letter key_letter
+    c.sign.ensures c.sign-in-loop-p.ensures c.sign-in-loop-p-2.ensures c.sign-in-loop-p-3.ensures in
     (place.more, rw add-one (marked_more at.invariant.1 place.inside letter row c.put.ensures), at.invariant.2)
 
 pub returns : goal.returns
 returns c =
     let at = c.loop-p in
-    let start = c in
-    let m = start.args.m in
-    let end : length (word_of m start.args.word) ≤ at.p = rw length_digits (omega arith) in (
+    let m = c.args.m in
+    let end : length (word_of m c.args.word) ≤ at.p = rw length_digits (omega arith) in (
       record {
         word =
             record {
-              letters = digits-below four-pos m start.args.word;
-              long = length_digits 4 m start.args.word;
-              some = start.requires.0;
-              few = start.requires.1;
+              letters = digits-below four-pos m c.args.word;
+              long = length_digits 4 m c.args.word;
+              some = c.requires.0;
+              few = c.requires.1;
               owns = owns-all at.invariant.1 end;
             };
-        one = keyed-one-to-one (word_of m start.args.key) (digits-below four-pos m start.args.key);
+        one = keyed-one-to-one (word_of m c.args.key) (digits-below four-pos m c.args.key);
         ranks = ranks-all at.invariant.1 end;
       },
       at.invariant.2,
