@@ -1,5 +1,6 @@
 // A whole shelf, listed by pages. Assumes nothing.
 #![tactic(auto)]
+
 ghost use Rattle.std.specs.Prelude.{◌≡◌, map};
 ghost use Rattle.definitions.specs.Lists.{over};
 ghost use Rattle.definitions.specs.Words.{val, word as word_of};

@@ -5,7 +5,6 @@ use mathlib.Core.Bool.{Bool, true, false, cond, ◌||◌}
 use mathlib.Core.List.{List}
 use mathlib.Core.Path.{◌≡◌, refl, sym, ap, ap₂, ◌∙◌}
 use native.Mathlib.Omega.{arith}
-use borrow.Author.Rules.{rules}
 use borrow.Author.Tests.{ltb-false, ne_eqb}
 use lib.Dec.{ltb}
 use lib.ListN.{length}
@@ -39,7 +38,10 @@ given c =
 
 -- where the refusal is 0, nothing is refused but the rooms
 none : (c : goal.Else-size-ne0) → let args = c.args in refusal (shelf_grounds args.k args.m args.key args.word) ≡ 0
-none c = sym (given c) ∙ c.if-size-ne0.false
+none c =
+    let args = c.args in
+    let given-here = ap (λ (o : Counted). o.refusal) c.size-size.ensures ∙ size-refusal args.k args.m args.key args.word in
+    sym given-here ∙ c.if-size-ne0.false
 
 -- and the count is the size
 counted : (c : goal.Else-size-ne0) → let args = c.args in c.size-size.result.count ≡ size_of (keyed (word_of args.m args.key)) args.k (word_of args.m args.word)
@@ -63,29 +65,29 @@ neither true y e = absurd (contrary true refl e)
 
 pub returns-then-size-ne0 : goal.returns-then-size-ne0
 unfolding list_outcome
-returns c =
+returns-then-size-ne0 c =
     let args = c.args in
     let r = c.size-size.result.refusal in
     let some : (r ≡ 0) → ⊥ = λ e. omega arith in
-    let is : refusal (list_grounds args.k args.m args.key args.word args.each args.room-1.now) ≡ r =
-    shelf-refusal args.k args.m args.key args.word (room_grounds (size_of (keyed (word_of args.m args.key)) args.k (word_of args.m args.word)) args.each (length args.room-1.now)) (given (goal.at.returns-then-size-ne0 c).After-size-size) ∙ rw (ne_eqb r 0 some) in
-    refused r some (keyed (word_of args.m args.key)) args.k (word_of args.m args.word) args.room-1.now
-    ∙ ap (λ (n : ℕ). list_answer n (keyed (word_of args.m args.key)) args.k (word_of args.m args.word) args.room-1.now) (sym is)
+    let is : refusal (list_grounds args.k args.m args.key args.word args.each args.room.now) ≡ r =
+    shelf-refusal args.k args.m args.key args.word (room_grounds (size_of (keyed (word_of args.m args.key)) args.k (word_of args.m args.word)) args.each (length args.room.now)) (given (goal.at.returns-then-size-ne0 c).After-size-size) ∙ rw (ne_eqb r 0 some) in
+    refused r some (keyed (word_of args.m args.key)) args.k (word_of args.m args.word) args.room.now
+    ∙ ap (λ (n : ℕ). list_answer n (keyed (word_of args.m args.key)) args.k (word_of args.m args.word) args.room.now) (sym is)
 
 pub returns-then-room-count : goal.returns-then-room-count
 unfolding list_outcome
-returns-2 c =
-    let first = c in
-    let args = first.args in
-    let test : (ltb (length args.room-1.now) first.size-size.result.count || ltb args.each c.lesser.result) ≡ true = c.if-room-count.true in
-    let is = tested args.k args.m args.key args.word args.each args.room-1.now (none first) (counted first) c.lesser.ensures test in
-    refused 7 (λ e. omega arith) (keyed (word_of args.m args.key)) args.k (word_of args.m args.word) args.room-1.now
-    ∙ ap (λ (n : ℕ). list_answer n (keyed (word_of args.m args.key)) args.k (word_of args.m args.word) args.room-1.now) (sym is)
+returns-then-room-count c =
+    let first = (goal.at.returns-then-room-count c).Else-size-ne0 in
+    let args = c.args in
+    let test : (ltb (length args.room.now) c.size-size.result.count || ltb args.each c.lesser.result) ≡ true = c.if-room-count.true in
+    let is = tested args.k args.m args.key args.word args.each args.room.now (none first) (counted first) c.lesser.ensures test in
+    refused 7 (λ e. omega arith) (keyed (word_of args.m args.key)) args.k (word_of args.m args.word) args.room.now
+    ∙ ap (λ (n : ℕ). list_answer n (keyed (word_of args.m args.key)) args.k (word_of args.m args.word) args.room.now) (sym is)
 
 pub list_pages-requires : goal.list_pages-requires
 list_pages-requires c =
-    let first = c in
-    let args = first.args in
+    let first = (goal.at.list_pages-requires c).Else-size-ne0 in
+    let args = c.args in
     let fits = neither _ _ c.if-room-count.false in
     record {
       accepted = word-accepted args.m args.k args.m args.key args.word (none first);
@@ -96,10 +98,10 @@ list_pages-requires c =
 
 pub returns : goal.returns
 unfolding list_outcome list_answer
-returns-3 c =
-    let first = c in
-    let args = first.args in
-    let is = tested args.k args.m args.key args.word args.each args.room-1.now (none first) (counted first) c.lesser.ensures c.if-room-count.false in
+returns c =
+    let first = (goal.at.returns c).Else-size-ne0 in
+    let args = c.args in
+    let is = tested args.k args.m args.key args.word args.each args.room.now (none first) (counted first) c.lesser.ensures c.if-room-count.false in
     let pages = c.list_pages.ensures in
     ap₂ (λ (n : ℕ) (l : List ℕ). record { refusal = 0; written = n; room = l }) (counted first) pages
-    ∙ ap (λ (n : ℕ). list_answer n (keyed (word_of args.m args.key)) args.k (word_of args.m args.word) args.room-1.now) (sym is)
+    ∙ ap (λ (n : ℕ). list_answer n (keyed (word_of args.m args.key)) args.k (word_of args.m args.word) args.room.now) (sym is)

@@ -1,11 +1,7 @@
 -- `listers::list_pages` meets its contract. The loop's invariant: the k-mers of the places before `at` are written. The measure is how many are left.
 -- Assumes nothing.
-use Prim.Native.Nat.{◌+◌, ◌-◌, ◌≤◌, ◌<◌, min}
-use mathlib.Core.Path.{◌≡◌}
-use native.Mathlib.Omega.{arith}
-use borrow.Author.Rules.{rules}
-use lib.ListN.{length}
-use Rattle.listers.proofs.Rows.{Taking, taking-none, taking-long, taking-all, taking-some, taking-more}
+use Prim.Native.Nat.{◌-◌}
+use Rattle.listers.proofs.Rows.{Taking}
 use Rattle.listers.proofs.list_pages.Given as goal
 
 abbrev pub invariant-loop-at : goal.invariant-loop-at
