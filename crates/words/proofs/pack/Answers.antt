@@ -3,7 +3,6 @@
 use Prim.Native.Nat.{ℕ}
 use mathlib.Core.Bool.{true, false, not}
 use mathlib.Core.Path.{◌≡◌, sym, ap, ◌∙◌}
-use borrow.Author.Rules.{rules}
 use borrow.Author.Tests.{lt-ltb, le-ltb}
 use lib.ListN.{length}
 use Rattle.definitions.specs.Lists.{all}
@@ -24,13 +23,13 @@ none c =
 
 pub returns-then-n : goal.returns-then-n
 unfolding pack_outcome pack_answer
-returns c =
+returns-then-n c =
     let bad : (bad_length (length c.args.text.now)).met ≡ true = c.if-n.true in
     rw bad
 
 pub returns-then-bad-n : goal.returns-then-bad-n
 unfolding pack_outcome pack_answer
-returns-2 c =
+returns-then-bad-n c =
     let text = c.args.text.now in
     let bad : not (all is_letter_byte text) ≡ true = sym (first_bad_place-all text) ∙ lt-ltb (first_bad_place text) (length text) (rw c.first_bad-bad.ensures at c.if-bad-n.true) in
     rw (c.if-n.false, bad) (ap (λ (p : ℕ). record { refusal = 6; place = p; word = 0 }) c.first_bad-bad.ensures)
@@ -40,4 +39,4 @@ read-requires c = pack-accepted c.args.text.now (none (goal.at.read-requires c).
 
 pub returns : goal.returns
 unfolding pack_outcome pack_answer
-returns-3 c = rw (none (goal.at.returns c).Else-bad-n, c.read.ensures)
+returns c = rw (none (goal.at.returns c).Else-bad-n, c.read.ensures)
