@@ -32,8 +32,7 @@ shown c =
 
 pub returns-then-refusal-ne0 : goal.returns-then-refusal-ne0
 returns-then-refusal-ne0 c =
-    let start = c in
-    answer-refused start.args.input.now c.read-line.ensures c.size-size.ensures c.first-refusal.ensures c.if-refusal-ne0.true c.refused.ensures
+    answer-refused c.args.input.now c.read-line.ensures c.size-size.ensures c.first-refusal.ensures c.if-refusal-ne0.true c.refused.ensures
 
 pub head-at-requires : goal.head-at-requires
 head-at-requires c = settings-fit (shelf (goal.at.head-at-requires c).Else-refusal-ne0) (omega (arith, c.requires))

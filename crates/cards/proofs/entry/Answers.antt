@@ -12,8 +12,7 @@ decimal-at-requires c = omega (arith, c.requires.1.fits)
 
 pub slice_bounds-lettered-count : goal.slice_bounds-lettered-count
 slice_bounds-lettered-count c =
-    let start = c in
-    let place = laid-decimal start.well-formed.0.1 c.decimal-at.ensures in
+    let place = laid-decimal c.well-formed.0.1 c.decimal-at.ensures in
     omega (arith, laid-most place, laid-length place)
 
 pub slice_bounds-lettered-start : goal.slice_bounds-lettered-start
@@ -21,21 +20,18 @@ slice_bounds-lettered-start c = sub-lettered c
 
 pub lettered-at-requires : goal.lettered-at-requires
 lettered-at-requires c =
-    let start = c in
-    let place = laid-decimal start.well-formed.0.1 c.decimal-at.ensures in
-    label-left 1 start.args.k start.args.kmer place start.requires.1.some start.requires.1.few start.requires.1.small
-    (omega (arith, place.long, decimal-short start.args.place (omega (arith, start.requires.0)), start.requires.1.few, start.requires.1.fits))
+    let place = laid-decimal c.well-formed.0.1 c.decimal-at.ensures in
+    label-left 1 c.args.k c.args.kmer place c.requires.1.some c.requires.1.few c.requires.1.small
+    (omega (arith, place.long, decimal-short c.args.place (omega (arith, c.requires.0)), c.requires.1.few, c.requires.1.fits))
 
 pub lay-requires : goal.lay-requires
 lay-requires c =
-    let start = c in
-    let place = laid-decimal start.well-formed.0.1 c.decimal-at.ensures in
+    let place = laid-decimal c.well-formed.0.1 c.decimal-at.ensures in
     let letters = c.lettered-at.ensures in
     rw (laid-left (laid_next place letters))
-    (omega (arith, place.long, decimal-short start.args.place (omega (arith, start.requires.0)), lettered-told (ascii " ") start.args.k start.args.kmer letters, start.requires.1.few, start.requires.1.fits))
+    (omega (arith, place.long, decimal-short c.args.place (omega (arith, c.requires.0)), lettered-told (ascii " ") c.args.k c.args.kmer letters, c.requires.1.few, c.requires.1.fits))
 
 pub returns : goal.returns
 returns c =
-    let start = c in
-    let place = laid-decimal start.well-formed.0.1 c.decimal-at.ensures in
-    laid_as (entry-parts start.args.place (word start.args.k start.args.kmer)) (laid_next (laid_next place c.lettered-at.ensures) c.lay.ensures)
+    let place = laid-decimal c.well-formed.0.1 c.decimal-at.ensures in
+    laid_as (entry-parts c.args.place (word c.args.k c.args.kmer)) (laid_next (laid_next place c.lettered-at.ensures) c.lay.ensures)

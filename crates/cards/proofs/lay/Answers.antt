@@ -12,24 +12,20 @@ use Rattle.cards.proofs.lay.Goals as goal
 pub bounds-room-i : goal.bounds-room-i
 bounds-room-i c =
     let at = c.loop-i in
-    let start = c in
-    omega (arith, start.requires, length-over_to start.args.bytes.now start.args.room.now {i = at.i} at.invariant.1 at.invariant.0 (omega (arith, start.requires)))
+    omega (arith, c.requires, length-over_to c.args.bytes.now c.args.room.now {i = at.i} at.invariant.1 at.invariant.0 (omega (arith, c.requires)))
 
 pub loop-i-preserved : goal.loop-i-preserved
 loop-i-preserved c =
     let at = c.loop-i in
-    let start = c in
-    (omega arith, rw add-one (over_to-more start.args.bytes.now start.args.room.now 0 at.invariant.1 refl (omega arith) (omega (arith, start.requires))))
+    (omega arith, rw add-one (over_to-more c.args.bytes.now c.args.room.now 0 at.invariant.1 refl (omega arith) (omega (arith, c.requires))))
 
 pub shape_of-room : goal.shape_of-room
 shape_of-room c =
     let at = c.loop-i in
-    let start = c in
-    length-over_to start.args.bytes.now start.args.room.now {i = at.i} at.invariant.1 at.invariant.0 (omega (arith, start.requires))
+    length-over_to c.args.bytes.now c.args.room.now {i = at.i} at.invariant.1 at.invariant.0 (omega (arith, c.requires))
 
 pub returns : goal.returns
 returns c =
     let at = c.loop-i in
-    let start = c in
-    let end : at.i ≡ length start.args.bytes.now = omega arith in
-    record { long = end; fits = start.requires; front = over_to-all start.args.bytes.now start.args.room.now at.invariant.1 end }
+    let end : at.i ≡ length c.args.bytes.now = omega arith in
+    record { long = end; fits = c.requires; front = over_to-all c.args.bytes.now c.args.room.now at.invariant.1 end }

@@ -8,9 +8,8 @@ use Rattle.cards.proofs.lettered.Goals as goal
 
 pub returns : goal.returns
 returns c =
-    let start = c in
     let label = c.lay-at.ensures in
-    laid_next label (laid-letters (unpacked c.unpack-letters.result c.unpack-letters.new.room) (word-left label start.requires) c.unpack-letters.ensures)
+    laid_next label (laid-letters (unpacked c.unpack-letters.result c.unpack-letters.new.room) (word-left label c.requires) c.unpack-letters.ensures)
 
 pub overflow_add-result : goal.overflow_add-result
 overflow_add-result c = omega (arith, laid-most (returns c), c.well-formed)

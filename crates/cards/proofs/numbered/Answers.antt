@@ -7,8 +7,7 @@ use Rattle.cards.proofs.numbered.Goals as goal
 
 pub returns : goal.returns
 returns c =
-    let start = c in
-    laid_next c.lay-at.ensures (laid-decimal start.well-formed.1.0.1 c.decimal.ensures)
+    laid_next c.lay-at.ensures (laid-decimal c.well-formed.1.0.1 c.decimal.ensures)
 
 pub overflow_add-result : goal.overflow_add-result
 overflow_add-result c = omega (arith, laid-most (returns c), c.well-formed.1.1.0)

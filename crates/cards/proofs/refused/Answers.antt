@@ -12,5 +12,4 @@ returns c = laid_next c.numbered-at.ensures c.lay-end.ensures }
 
 pub lay-end-requires : goal.lay-end-requires
 lay-end-requires c =
-    let start = c in
-    rw (laid-left c.numbered-at.ensures) (omega (arith, start.requires, numbered-most (ascii "refused ") start.args.refusal c.numbered-at.ensures))
+    rw (laid-left c.numbered-at.ensures) (omega (arith, c.requires, numbered-most (ascii "refused ") c.args.refusal c.numbered-at.ensures))

@@ -38,15 +38,15 @@ overflow_mul-word c =
 
 pub overflow_add-word : goal.overflow_add-word
 overflow_add-word c =
+    let text = c.args.text.now in
     let at = c.loop-i in
-    let start = c in
-    omega (arith, at.invariant.1, small start.args.text.now start.requires at.i c.loop-i-test.true, read-lt start.args.text.now start.requires at.i c.loop-i-test.true, c.letter.ensures)
+    let h = c.loop-i-test.true in
+    omega (arith, at.invariant.1, small text c.requires at.i h, read-lt text c.requires at.i h, c.letter.ensures)
 
 pub loop-i-preserved : goal.loop-i-preserved
 loop-i-preserved c =
     let at = c.loop-i in
-    let start = c in
-    (omega arith, rw (c.letter.ensures, at.invariant.1, add-one) (one_more start.args.text.now start.requires at.i c.loop-i-test.true))
+    (omega arith, rw (c.letter.ensures, at.invariant.1, add-one) (one_more c.args.text.now c.requires at.i c.loop-i-test.true))
 
 pub returns : goal.returns
 returns c =
