@@ -1,7 +1,6 @@
 -- `cards::head` meets its contract.
 -- Assumes nothing.
 use native.Mathlib.Omega.{arith}
-use borrow.Author.Rules.{rules}
 use Rattle.cards.specs.Answers.{asked_of}
 use Rattle.cards.proofs.Laying.{laid_next, laid_as, laid-left, settings-parts, key-part-most}
 use Rattle.cards.proofs.head.Goals as goal

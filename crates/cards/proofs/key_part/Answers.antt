@@ -1,7 +1,6 @@
 -- `cards::key_part` meets its contract.
 -- Assumes nothing.
 use native.Mathlib.Omega.{arith}
-use borrow.Author.Rules.{rules}
 use Rattle.definitions.specs.Cards.{ascii}
 use Rattle.cards.proofs.Laying.{laid_next, label-left, numbered-short}
 use Rattle.cards.proofs.key_part.Goals as goal

@@ -2,13 +2,12 @@
 -- Assumes nothing.
 use mathlib.Core.Path.{refl}
 use native.Mathlib.Omega.{arith}
-use borrow.Author.Rules.{rules}
 use Rattle.definitions.specs.Cards.{ascii}
 use Rattle.cards.proofs.Laying.{laid_next, laid-left, numbered-most}
 use Rattle.cards.proofs.refused.Goals as goal
 
 pub returns : goal.returns
-returns c = laid_next c.numbered-at.ensures c.lay-end.ensures }
+returns c = record { refusal = refl; laid = laid_next c.numbered-at.ensures c.lay-end.ensures }
 
 pub lay-end-requires : goal.lay-end-requires
 lay-end-requires c =

@@ -1,7 +1,6 @@
 -- `cards::word_part` meets its contract.
 -- Assumes nothing.
 use native.Mathlib.Omega.{arith}
-use borrow.Author.Rules.{rules}
 use Rattle.definitions.specs.Cards.{ascii}
 use Rattle.cards.proofs.Laying.{laid_next, laid-left, lettered-told, numbered-most}
 use Rattle.cards.proofs.word_part.Goals as goal
