@@ -1,5 +1,6 @@
 // The size of a shelf: the sum over a of antemers in row k - m - a of its worksheet times postmers in row a. Assumes nothing.
 #![tactic(auto)]
+
 ghost use Rattle.std.specs.Prelude.{◌≡◌, suc, ◌^◌, ◌≤◌};
 ghost use Rattle.definitions.specs.Outcomes.{size_outcome};
 ghost use Rattle.laws.specs.Split.{product_sum};

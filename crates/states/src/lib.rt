@@ -12,6 +12,7 @@
 //                       b among them, at which that is so; NEVER where it never is. Of the tied m-mers the one that began first needs the
 //                       fewest letters more, so the longest tied state at which b ranks below decides
 #![tactic(auto)]
+
 ghost use Rattle.std.specs.Prelude.{◌≡◌, ◌*◌, ◌≤◌, ◌<◌, length};
 ghost use Rattle.std.proofs.lemmas.List.Edits.{sets};
 ghost use Rattle.definitions.specs.Words.{word as word_of};

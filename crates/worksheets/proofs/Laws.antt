@@ -9,7 +9,7 @@ use mir.Syntax.{w64}
 use mir.Val.{Fits}
 use borrow.Author.Tests.{lt-ltb, le-ltb}
 use lib.ListN.{length, get_or}
-use Rattle.definitions.specs.Words.{Word, letters}
+use Rattle.definitions.specs.Words.{Word}
 use Rattle.laws.specs.Numbers.{letter-lt}
 use Rattle.laws.specs.Orders.{Ranking}
 use Rattle.laws.specs.Rules.{sign}

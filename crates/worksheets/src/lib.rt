@@ -6,6 +6,7 @@
 // antemer stands w, so every m-mer that begins in it exists, and state m has no way on: w would stand there too soon. After a postmer
 // stands nothing, so only an m-mer for which letters are left exists, and where none can exist any more the ways are a power of four.
 #![tactic(auto)]
+
 ghost use Rattle.std.specs.Prelude.{◌≡◌, suc, ◌-◌, ◌≤◌, ◌<◌, min};
 ghost use Rattle.definitions.specs.Outcomes.{worksheet_outcome};
 ghost use Rattle.laws.specs.Rooms.{Written};

@@ -7,7 +7,6 @@ use mathlib.Core.List.{List}
 use mathlib.Core.Path.{◌≡◌, refl, sym, ap, ◌∙◌}
 use native.Mathlib.Numerals.{add-one}
 use native.Mathlib.Omega.{arith}
-use borrow.Author.Rules.{rules}
 use borrow.Author.Tests.{leb-true, leb-false}
 use lib.Dec.{leb}
 use lib.ListN.{get_or}
@@ -51,30 +50,26 @@ bounds-sheet-a c = omega (arith, c.requires.0)
 
 pub overflow_mul-product : goal.overflow_mul-product
 overflow_mul-product c =
-    let start = c in
-    let sheet = start.args.t2 in
-    omega (arith, row_fits start.args.n sheet.antemers sheet.postmers c.loop-a.a start.requires.1 (omega arith))
+    let sheet = c.args.sheet in
+    omega (arith, row_fits c.args.n sheet.antemers sheet.postmers c.loop-a.a c.requires.1 (omega arith))
 
 pub overflow_add-sum : goal.overflow_add-sum
 overflow_add-sum c =
-    let start = c in
-    let sheet = start.args.t2 in
+    let sheet = c.args.sheet in
     let at = c.loop-a in
-    omega (arith, at.invariant.1, row_fits start.args.n sheet.antemers sheet.postmers at.a start.requires.1 (omega arith))
+    omega (arith, at.invariant.1, row_fits c.args.n sheet.antemers sheet.postmers at.a c.requires.1 (omega arith))
 
 pub overflow_add-a : goal.overflow_add-a
 overflow_add-a c = omega (arith, c.requires.0)
 
 pub loop-a-preserved : goal.loop-a-preserved
 loop-a-preserved c =
-    let start = c in
-    let sheet = start.args.t2 in
+    let sheet = c.args.sheet in
     let at = c.loop-a in
-    (omega arith, rw (at.invariant.1, add-one) (sym (row_more start.args.n sheet.antemers sheet.postmers at.a)))
+    (omega arith, rw (at.invariant.1, add-one) (sym (row_more c.args.n sheet.antemers sheet.postmers at.a)))
 
 pub returns : goal.returns
 returns c =
-    let start = c in
     let at = c.loop-a in
-    let end : at.a ≡ suc start.args.n = omega arith in
-    at.invariant.1 ∙ ap (product_sum start.args.n start.args.t2.antemers start.args.t2.postmers) end
+    let end : at.a ≡ suc c.args.n = omega arith in
+    at.invariant.1 ∙ ap (product_sum c.args.n c.args.sheet.antemers c.args.sheet.postmers) end

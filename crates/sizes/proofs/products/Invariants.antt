@@ -1,19 +1,9 @@
 -- `sizes::products` meets its contract. The loop's invariant: the sum is that over the first a rows. A part of it is at most the whole,
 -- which is at most 4^31. The measure is how many rows are left.
 -- Assumes nothing.
-use Prim.Native.Nat.{ℕ, zero, suc, ◌+◌, ◌-◌, ◌*◌, ◌^◌, ◌≤◌}
-use mathlib.Core.Bool.{Bool, true, false}
-use mathlib.Core.List.{List}
-use mathlib.Core.Path.{◌≡◌, refl, sym, ap, ◌∙◌}
-use native.Mathlib.Numerals.{add-one}
-use native.Mathlib.Omega.{arith}
-use borrow.Author.Rules.{rules}
-use borrow.Author.Tests.{leb-true, leb-false}
-use lib.Dec.{leb}
-use lib.ListN.{get_or}
-use Rattle.definitions.specs.Lists.{tabulate, total}
+use Prim.Native.Nat.{suc, ◌-◌, ◌≤◌}
+use mathlib.Core.Path.{◌≡◌}
 use Rattle.laws.specs.Split.{product_sum}
-use Rattle.laws.proofs.Split.{total-last}
 use Rattle.sizes.proofs.products.Given as goal
 
 abbrev pub invariant-loop-a : goal.invariant-loop-a

@@ -3,7 +3,6 @@
 use Prim.Native.Nat.{ℕ, zero, suc, ◌-◌}
 use mathlib.Core.Path.{◌≡◌, refl, sym, ap, ◌∙◌}
 use native.Mathlib.Omega.{arith}
-use borrow.Author.Rules.{rules}
 use Rattle.definitions.specs.Words.{Word, word as word_of}
 use Rattle.definitions.specs.Vigemins.{Form, keyed}
 use Rattle.definitions.specs.Shelves.{size as shelf_size}
@@ -13,7 +12,7 @@ use Rattle.laws.specs.Split.{product_sum}
 use Rattle.laws.proofs.RoundTrips.{size_small, worksheet-size}
 use Rattle.laws.specs.Accepted.{ShelfAccepted, word-accepted, worksheet_answer-refusal}
 use Rattle.sizes.proofs.size.Goals as goal
-use Rattle.sizes.proofs.size.Goals.{After-worksheet-worked, Else-worked-ne0}
+use Rattle.sizes.proofs.size.Goals.{Else-worked-ne0}
 
 -- beside a refusal stands zero
 refused : (r : ℕ) → (r ≡ 0 → ⊥) → (f : Form) (k : ℕ) (w : Word) → record { refusal = r; count = 0 } ≡ size_answer r f k w
@@ -22,13 +21,13 @@ refused zero h f k w = absurd (h refl)
 refused (suc r) h f k w = refl
 
 -- the refusal is that of the shelf
-given : (c : goal.After-worksheet-worked) → let args = c.args in c.worksheet-worked.result.refusal ≡ refusal (shelf_grounds args.k args.m args.key args.word)
+given : (k m key word : ℕ) {o : Worked} → o ≡ worksheet_outcome k m key word → o.refusal ≡ refusal (shelf_grounds k m key word)
 unfolding worksheet_outcome
-given c = ap (λ (o : Worked). o.refusal) c.worksheet-worked.ensures ∙ worksheet_answer-refusal _ _ _ _ _
+given k m key word e = ap (λ (o : Worked). o.refusal) e ∙ worksheet_answer-refusal _ _ _ _ _
 
 -- where the refusal is 0, nothing is refused
 none : (c : goal.Else-worked-ne0) → let args = c.args in refusal (shelf_grounds args.k args.m args.key args.word) ≡ 0
-none c = sym (given c) ∙ c.if-worked-ne0.false
+none c = sym (given _ _ _ _ c.worksheet-worked.ensures) ∙ c.if-worked-ne0.false
 
 -- so the inputs are those of a shelf
 accepted : (c : goal.Else-worked-ne0) → let args = c.args in ShelfAccepted args.k args.m args.key args.word
@@ -48,16 +47,19 @@ summed c =
 
 pub returns-then-worked-ne0 : goal.returns-then-worked-ne0
 unfolding size_outcome
-returns c = rw (← given (goal.at.returns-then-worked-ne0 c).After-worksheet-worked) (refused c.worksheet-worked.result.refusal c.if-worked-ne0.true _ _ _)
+returns-then-worked-ne0 c = rw (← given _ _ _ _ c.worksheet-worked.ensures) (refused c.worksheet-worked.result.refusal c.if-worked-ne0.true _ _ _)
 
 pub overflow_sub-k : goal.overflow_sub-k
 overflow_sub-k c = (accepted (goal.at.overflow_sub-k c).Else-worked-ne0).order.m_fits
 
 pub products-count-requires : goal.products-count-requires
 products-count-requires c =
-    let order = (accepted (goal.at.products-count-requires c).Else-worked-ne0).order in
-    (omega (arith, order.k_few, order.m_some), rw (summed (goal.at.products-count-requires c).Else-worked-ne0) (size_small (accepted (goal.at.products-count-requires c).Else-worked-ne0)))
+    let here = (goal.at.products-count-requires c).Else-worked-ne0 in
+    let order = (accepted here).order in
+    (omega (arith, order.k_few, order.m_some), rw (summed here) (size_small (accepted here)))
 
 pub returns : goal.returns
 unfolding size_outcome size_answer
-returns-2 c = rw (none (goal.at.returns c).Else-worked-ne0) (ap (λ (n : ℕ). record { refusal = 0; count = n }) (c.products-count.ensures ∙ summed (goal.at.returns c).Else-worked-ne0))
+returns c =
+    let here = (goal.at.returns c).Else-worked-ne0 in
+    rw (none here) (ap (λ (n : ℕ). record { refusal = 0; count = n }) (c.products-count.ensures ∙ summed here))

@@ -1,6 +1,5 @@
 -- `states::entry` meets its contract: the test is that of the mark.
 -- Assumes nothing.
-use borrow.Author.Rules.{rules}
 use borrow.Author.Tests.{eq-eqb, ne_eqb}
 use Rattle.states.proofs.entry.Goals as goal
 

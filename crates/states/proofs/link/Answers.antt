@@ -19,10 +19,9 @@ pub entry-requires-4 : goal.entry-requires-4
 entry-requires-4 c = c.requires.small
 
 pub put-requires : goal.put-requires
-put-requires c = c.requires in (pre.to, pre.long)
+put-requires c = (c.requires.to, c.requires.long)
 
 pub returns : goal.returns
 returns c =
-    let last = c in
     c.put.ensures
-    ∙ rw (← last.row-fallen.ensures, last.entry.ensures, last.entry-2.ensures, last.entry-3.ensures, last.entry-4.ensures)
+    ∙ rw (← c.row-fallen.ensures, c.entry.ensures, c.entry-2.ensures, c.entry-3.ensures, c.entry-4.ensures)

@@ -1,14 +1,10 @@
 -- `states::link_states` meets its contract. The loop's invariant: the rows of the states below i are written, `fall` is the state that state i
 -- falls to, and the special alphabets are as they were. The measure is how many states are left.
 -- Assumes nothing.
-use Prim.Native.Nat.{suc, ◌-◌, ◌≤◌}
-use mathlib.Core.Path.{◌≡◌, refl}
+use mathlib.Core.Path.{refl}
 use native.Mathlib.Numerals.{add-one}
 use native.Mathlib.Omega.{arith}
-use Rattle.definitions.specs.Words.{Word}
-use Rattle.laws.specs.Orders.{Ranking}
-use Rattle.states.specs.Tables.{AlphabetsOf}
-use Rattle.states.proofs.Below.{alphabets-kept, Reached, reached-first, reached-last, reached-more, Going, going}
+use Rattle.states.proofs.Below.{alphabets-kept, reached-first, reached-last, reached-more, Going, going}
 use Rattle.states.proofs.link_states.Goals as goal
 use Rattle.states.proofs.link_states.Goals.{In-loop-i}
 
@@ -25,7 +21,7 @@ pub loop-i-init : goal.loop-i-init
 loop-i-init c = (omega arith, refl, refl, λ ρ w a. reached-first ρ w c.requires.unlinked)
 
 pub row-here-requires : goal.row-here-requires
-row-here-requires c = known (goal.at.row-here-requires c).In-loop-i in (omega (arith, k.few), k.mark_long)
+row-here-requires c = let k = known (goal.at.row-here-requires c).In-loop-i in (omega (arith, k.few), k.mark_long)
 
 pub bounds-s-i : goal.bounds-s-i
 bounds-s-i c = omega (arith, (known (goal.at.bounds-s-i c).In-loop-i).few)
@@ -37,10 +33,10 @@ pub overflow_mul-after : goal.overflow_mul-after
 overflow_mul-after c = omega (arith, (known (goal.at.overflow_mul-after c).In-loop-i).low)
 
 pub overflow_add-after : goal.overflow_add-after
-overflow_add-after c = known (goal.at.overflow_add-after c).In-loop-i in omega (arith, k.low, k.letter-1)
+overflow_add-after c = let k = known (goal.at.overflow_add-after c).In-loop-i in omega (arith, k.low, k.letter)
 
 pub bounds-s-fall : goal.bounds-s-fall
-bounds-s-fall c = known (goal.at.bounds-s-fall c).In-loop-i in omega (arith, k.low, k.letter-1)
+bounds-s-fall c = let k = known (goal.at.bounds-s-fall c).In-loop-i in omega (arith, k.low, k.letter)
 
 pub overflow_cast-after : goal.overflow_cast-after
 overflow_cast-after c = omega (arith, (known (goal.at.overflow_cast-after c).In-loop-i).after)

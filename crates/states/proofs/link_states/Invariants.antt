@@ -2,17 +2,15 @@
 -- falls to, and the special alphabets are as they were. The measure is how many states are left.
 -- Assumes nothing.
 use Prim.Native.Nat.{suc, ◌-◌, ◌≤◌}
-use mathlib.Core.Path.{◌≡◌, refl}
-use native.Mathlib.Numerals.{add-one}
-use native.Mathlib.Omega.{arith}
+use mathlib.Core.Path.{◌≡◌}
 use Rattle.definitions.specs.Words.{Word}
 use Rattle.laws.specs.Orders.{Ranking}
 use Rattle.states.specs.Tables.{AlphabetsOf}
-use Rattle.states.proofs.Below.{alphabets-kept, Reached, reached-first, reached-last, reached-more, Going, going}
+use Rattle.states.proofs.Below.{Reached}
 use Rattle.states.proofs.link_states.Given as goal
 
 abbrev pub invariant-loop-i : goal.invariant-loop-i
-invariant-loop-i l = 
+invariant-loop-i l =
     (l.i ≤ suc l.m)
     × (l.s.own ≡ l.initial.s.own)
     × (l.s.marks ≡ l.initial.s.marks)

@@ -4,7 +4,6 @@ use Prim.Native.Nat.{ℕ, zero, suc}
 use mathlib.Core.List.{List}
 use mathlib.Core.Path.{◌≡◌, refl, sym, ◌∙◌}
 use native.Mathlib.Omega.{arith}
-use borrow.Author.Rules.{rules}
 use lib.ListN.{replicate}
 use Rattle.definitions.specs.Words.{Word}
 use Rattle.definitions.specs.Refusals.{refusal}
@@ -14,7 +13,7 @@ use Rattle.laws.specs.Orders.{Ranking}
 use Rattle.states.specs.Tables.{AlphabetsOf, LinksOf}
 use Rattle.states.specs.Answers.{prepare_answer, prepare_outcome}
 use Rattle.states.proofs.prepare.Goals as goal
-use Rattle.states.proofs.prepare.Goals.{After-word_refusal-refusal, Else-refusal-ne0}
+use Rattle.states.proofs.prepare.Goals.{Else-refusal-ne0}
 
 -- beside a refusal stand zeros
 refused : (r : ℕ) → (r ≡ 0 → ⊥) → (ρ : Ranking) (w : Word)
@@ -29,18 +28,13 @@ accepted : {ρ : Ranking} {w : Word} {m : ℕ} {own marks next ban : List ℕ} �
 unfolding prepare_answer
 accepted a l = rw (a.word.owns, a.ranks, l.nexts, l.bans)
 
--- the refusal is that of the shelf
-given : (c : goal.After-word_refusal-refusal)
-    → let args = c.args in c.word_refusal-refusal.result ≡ refusal (shelf_grounds args.k args.m args.key args.word)
-given c = c.word_refusal-refusal.ensures
-
 -- where the test failed, nothing is refused
 none : (c : goal.Else-refusal-ne0) → let args = c.args in refusal (shelf_grounds args.k args.m args.key args.word) ≡ 0
-none c = sym (given c) ∙ c.if-refusal-ne0.false
+none c = sym c.word_refusal-refusal.ensures ∙ c.if-refusal-ne0.false
 
 pub returns-then-refusal-ne0 : goal.returns-then-refusal-ne0
 unfolding prepare_outcome
-returns c = rw (← given (goal.at.returns-then-refusal-ne0 c).After-word_refusal-refusal) (refused c.word_refusal-refusal.result c.if-refusal-ne0.true _ _)
+returns-then-refusal-ne0 c = rw (← c.word_refusal-refusal.ensures) (refused c.word_refusal-refusal.result c.if-refusal-ne0.true _ _)
 
 pub special_alphabets-unlinked-requires : goal.special_alphabets-unlinked-requires
 special_alphabets-unlinked-requires c =
@@ -49,11 +43,13 @@ special_alphabets-unlinked-requires c =
     (order.m_some, omega (arith, order.m_fits, order.k_few))
 
 pub link_states-requires : goal.link_states-requires
-link_states-requires c = c.special_alphabets-unlinked.ensures in ((_, _, given.0), given.1)
+link_states-requires c =
+    let made = c.special_alphabets-unlinked.ensures in
+    record { known = (_, _, made.0); unlinked = made.1 }
 
 pub returns : goal.returns
 unfolding prepare_outcome
-returns-2 c =
+returns c =
     let a = c.special_alphabets-unlinked.ensures.0 in
     let l = c.link_states.ensures in
     rw (none (goal.at.returns c).Else-refusal-ne0, l.0, l.1) (accepted a (l.2 _ _ a))

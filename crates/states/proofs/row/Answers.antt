@@ -32,9 +32,8 @@ bounds-table-at-4 c = omega arith
 
 pub returns : goal.returns
 returns c =
-    let start = c in
-    let table = start.args.table.now in
-    let at = 4 * start.args.state in
+    let table = c.args.table.now in
+    let at = 4 * c.args.state in
     let one : at + 1 ≡ suc at = omega arith in
     let two : at + 2 ≡ suc (suc at) = omega arith in
     let three : at + 3 ≡ suc (suc (suc at)) = omega arith in

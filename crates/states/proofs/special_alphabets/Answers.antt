@@ -17,7 +17,7 @@ use Rattle.definitions.specs.Words.{Word, letters, word as word_of}
 use Rattle.laws.specs.Numbers.{four-pos, length_digits, digits-below, letter-cut}
 use Rattle.laws.specs.Orders.{Ranking, key_ranking, keyed-one-to-one}
 use Rattle.states.specs.Grids.{grid, length-grid}
-use Rattle.states.specs.Tables.{mark_of, own_of, mark_at, Unlinked, unlinked-first}
+use Rattle.states.specs.Tables.{mark_of, own_of, mark_at, unlinked-first}
 use Rattle.states.proofs.Rows.{written, written_all, write-entry, write-row}
 use Rattle.states.proofs.special_alphabets.Invariants.{Marked}
 use Rattle.states.proofs.special_alphabets.Goals as goal
@@ -96,7 +96,7 @@ pub overflow_sub-shift-in-loop-p : goal.overflow_sub-shift-in-loop-p
 overflow_sub-shift-in-loop-p c = (here (goal.at.overflow_sub-shift-in-loop-p c).In-loop-p).below
 
 pub overflow_mul-shift : goal.overflow_mul-shift
-overflow_mul-shift c = (here (goal.at.overflow_mul-shift c).In-loop-p).ranges
+overflow_mul-shift c = (here (goal.at.overflow_mul-shift c).In-loop-p).fits
 
 pub overflow_shr-letter : goal.overflow_shr-letter
 overflow_shr-letter c = (here (goal.at.overflow_shr-letter c).In-loop-p).shift
@@ -121,33 +121,30 @@ loop-p-smaller c = (here (goal.at.loop-p-smaller c).In-loop-p).less
 
 pub loop-p-preserved : goal.loop-p-preserved
 loop-p-preserved c =
-    let start = c in
     let at = c.loop-p in
     let place = here (goal.at.loop-p-preserved c).In-loop-p in
-    let m = start.args.m in
-    let letter = letter-cut m start.args.word at.p (m - 1 - at.p) place.whole in
-    let key_letter = letter-cut m start.args.key at.p (m - 1 - at.p) place.whole in
-    let last = c in
-    let row = marks-at m start.args.key start.args.word at.p c.loop-p-test.true letter key_letter
-    last.sign.ensures last.sign-in-loop-p.ensures last.sign-in-loop-p-2.ensures last.sign-in-loop-p-3.ensures in
+    let m = c.args.m in
+    let letter = letter-cut m c.args.word at.p (m - 1 - at.p) place.whole in
+    let key_letter = letter-cut m c.args.key at.p (m - 1 - at.p) place.whole in
+    let row = marks-at m c.args.key c.args.word at.p c.loop-p-test.true letter key_letter
+    c.sign.ensures c.sign-in-loop-p.ensures c.sign-in-loop-p-2.ensures c.sign-in-loop-p-3.ensures in
     (place.more, rw add-one (marked_more at.invariant.1 place.inside letter row c.put.ensures), at.invariant.2)
 
 pub returns : goal.returns
 returns c =
     let at = c.loop-p in
-    let start = c in
-    let m = start.args.m in
-    let end : length (word_of m start.args.word) ≤ at.p = rw length_digits (omega arith) in (
+    let m = c.args.m in
+    let end : length (word_of m c.args.word) ≤ at.p = rw length_digits (omega arith) in (
       record {
         word =
             record {
-              letters = digits-below four-pos m start.args.word;
-              long = length_digits 4 m start.args.word;
-              some = start.requires.0;
-              few = start.requires.1;
+              letters = digits-below four-pos m c.args.word;
+              long = length_digits 4 m c.args.word;
+              some = c.requires.0;
+              few = c.requires.1;
               owns = owns-all at.invariant.1 end;
             };
-        one = keyed-one-to-one (word_of m start.args.key) (digits-below four-pos m start.args.key);
+        one = keyed-one-to-one (word_of m c.args.key) (digits-below four-pos m c.args.key);
         ranks = ranks-all at.invariant.1 end;
       },
       at.invariant.2,

@@ -1,13 +1,8 @@
 -- `worksheets::allowed_letters` meets its contract. The loop's invariant: the entries below c are written. The measure is how many are left.
 -- Assumes nothing.
-use Prim.Native.Nat.{◌+◌, ◌-◌, ◌≤◌}
-use mathlib.Core.Path.{◌≡◌, refl}
-use native.Mathlib.Nat.{zero-add}
-use native.Mathlib.Numerals.{add-one}
-use native.Mathlib.Omega.{arith}
-use borrow.Author.Rules.{rules}
+use Prim.Native.Nat.{◌-◌, ◌≤◌}
 use lib.ListN.{get_or}
-use Rattle.laws.specs.Rooms.{Written, written_none, written-up}
+use Rattle.laws.specs.Rooms.{Written}
 use Rattle.worksheets.specs.Columns.{led_to}
 use Rattle.worksheets.proofs.allowed_letters.Given as goal
 

@@ -1,14 +1,13 @@
 -- `worksheets::caught` meets its contract. The loop's invariant: the thread is caught in w exactly if, with the first j letters of w tied too,
 -- it is caught in the rest of w. The measure is how many letters of the thread are left.
 -- Assumes nothing.
-use Prim.Native.Nat.{ℕ, suc, ◌+◌, ◌-◌, ◌≤◌, ◌<◌}
+use Prim.Native.Nat.{ℕ, suc, ◌+◌, ◌<◌}
 use mathlib.Core.Bool.{Bool, true, false, cond, ◌&&◌, ◌||◌, or-false}
 use mathlib.Core.List.{List}
 use mathlib.Core.Path.{◌≡◌, refl, sym, ap, ap₂, ◌∙◌}
 use native.Mathlib.Nat.{add-zero}
 use native.Mathlib.Numerals.{add-one}
 use native.Mathlib.Omega.{arith}
-use borrow.Author.Rules.{rules}
 use borrow.Author.Tests.{eqb-true, le-ltb, le-leb, eq-eqb, ne_eqb}
 use lib.Dec.{ltb, eqb}
 use lib.ListN.{length, get_or, drop, length-drop}
@@ -18,7 +17,7 @@ use Rattle.laws.specs.Numbers.{letter-lt}
 use Rattle.laws.specs.Orders.{Ranking, rank_same}
 use Rattle.laws.specs.Threads.{caught}
 use Rattle.laws.specs.Acceptors.{below_hit}
-use Rattle.states.specs.Tables.{mark_of, mark-equal, mark-below, All, AlphabetsOf}
+use Rattle.states.specs.Tables.{mark_of, mark-equal, mark-below, AlphabetsOf}
 use Rattle.worksheets.specs.Columns.{entry_of}
 use Rattle.worksheets.proofs.Laws.{mark-entry, mark-ready}
 use Rattle.worksheets.proofs.caught.Invariants.{tied_to}

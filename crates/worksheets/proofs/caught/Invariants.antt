@@ -1,26 +1,15 @@
 -- `worksheets::caught` meets its contract. The loop's invariant: the thread is caught in w exactly if, with the first j letters of w tied too,
 -- it is caught in the rest of w. The measure is how many letters of the thread are left.
 -- Assumes nothing.
-use Prim.Native.Nat.{ℕ, suc, ◌+◌, ◌-◌, ◌≤◌, ◌<◌}
-use mathlib.Core.Bool.{Bool, true, false, cond, ◌&&◌, ◌||◌, or-false}
-use mathlib.Core.List.{List}
-use mathlib.Core.Path.{◌≡◌, refl, sym, ap, ap₂, ◌∙◌}
-use native.Mathlib.Nat.{add-zero}
-use native.Mathlib.Numerals.{add-one}
-use native.Mathlib.Omega.{arith}
-use borrow.Author.Rules.{rules}
-use borrow.Author.Tests.{eqb-true, le-ltb, le-leb, eq-eqb, ne_eqb}
-use lib.Dec.{ltb, eqb}
-use lib.ListN.{length, get_or, drop, length-drop}
-use lib.Seq.{drop-cons, drop-length}
+use Prim.Native.Nat.{ℕ, ◌+◌, ◌-◌, ◌≤◌}
+use mathlib.Core.Bool.{Bool, true}
+use mathlib.Core.Path.{◌≡◌}
+use lib.ListN.{drop}
 use Rattle.definitions.specs.Words.{Word}
-use Rattle.laws.specs.Numbers.{letter-lt}
-use Rattle.laws.specs.Orders.{Ranking, rank_same}
+use Rattle.laws.specs.Orders.{Ranking}
 use Rattle.laws.specs.Threads.{caught}
 use Rattle.laws.specs.Acceptors.{below_hit}
-use Rattle.states.specs.Tables.{mark_of, mark-equal, mark-below, All, AlphabetsOf}
-use Rattle.worksheets.specs.Columns.{entry_of}
-use Rattle.worksheets.proofs.Laws.{mark-entry, mark-ready}
+use Rattle.states.specs.Tables.{All, AlphabetsOf}
 use Rattle.worksheets.proofs.caught.Given as goal
 
 -- a thread tied with l letters, of which the latest j are w's first ones, is caught in the rest of w

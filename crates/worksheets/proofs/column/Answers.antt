@@ -1,10 +1,10 @@
 -- `worksheets::column` meets its contract. The loop's invariant: the ways are those by `done` letters, so many rows and one are written, and the table
 -- of allowed letters is that for the letters left in the next one. The measure is how many rows are left.
 -- Assumes nothing.
-use Prim.Native.Nat.{◌+◌, ◌-◌, ◌<◌}
+use Prim.Native.Nat.{◌+◌, ◌<◌}
 use native.Mathlib.Omega.{arith}
 use Rattle.worksheets.proofs.Laws.{fits-small, fits-place, left_less}
-use Rattle.worksheets.proofs.Columns.{start-low, follow-low, row_low, row_small, left-low, more-low, Going, going-first, lets-anew, lets-kept, going-turn, going_next, going-all}
+use Rattle.worksheets.proofs.Columns.{start-low, follow-low, row_low, row_small, left-low, more-low, going-first, lets-anew, lets-kept, going-turn, going_next, going-all}
 use Rattle.worksheets.proofs.column.Goals as goal
 use Rattle.worksheets.proofs.column.Goals.{Then-left-m}
 
@@ -35,8 +35,7 @@ overflow_add-r c = fits-small (row_small c.requires.countable.1 c.loop-done.done
 
 pub next_row-requires : goal.next_row-requires
 next_row-requires c =
-    let pre = c.requires in
-    (going-turn c.loop-done.invariant c.loop-done-test.true pre.0, pre.1)
+    record { turn_ready = going-turn c.loop-done.invariant c.loop-done-test.true c.requires.countable; powers_are = c.requires.powers_are }
 
 pub offset_bounds-column-r : goal.offset_bounds-column-r
 offset_bounds-column-r c = fits-place (row_small c.requires.countable.1 c.loop-done.done c.loop-done-test.true)

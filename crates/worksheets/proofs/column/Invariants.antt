@@ -1,14 +1,12 @@
 -- `worksheets::column` meets its contract. The loop's invariant: the ways are those by `done` letters, so many rows and one are written, and the table
 -- of allowed letters is that for the letters left in the next one. The measure is how many rows are left.
 -- Assumes nothing.
-use Prim.Native.Nat.{◌+◌, ◌-◌, ◌<◌}
-use native.Mathlib.Omega.{arith}
-use Rattle.worksheets.proofs.Laws.{fits-small, fits-place, left_less}
-use Rattle.worksheets.proofs.Columns.{start-low, follow-low, row_low, row_small, left-low, more-low, Going, going-first, lets-anew, lets-kept, going-turn, going_next, going-all}
+use Prim.Native.Nat.{◌-◌}
+use Rattle.worksheets.proofs.Columns.{Going}
 use Rattle.worksheets.proofs.column.Given as goal
 
 abbrev pub invariant-loop-done : goal.invariant-loop-done
-invariant-loop-done l = 
+invariant-loop-done l =
     Going l.m l.rows l.side.start l.side.follow l.side.live l.initial.ways l.next l.ban l.done l.ways l.column l.allowed
 
 abbrev pub decreases-loop-done : goal.decreases-loop-done

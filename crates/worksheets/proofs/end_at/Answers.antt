@@ -2,7 +2,6 @@
 -- Assumes nothing.
 use mathlib.Core.Bool.{Bool, not, cond, ◌&&◌, and-false}
 use mathlib.Core.Path.{sym, ap, ap₂, ◌∙◌}
-use borrow.Author.Rules.{rules}
 use borrow.Author.Tests.{eq-eqb, ne_eqb}
 use lib.Dec.{eqb}
 use Rattle.worksheets.proofs.end_at.Goals as goal
@@ -19,6 +18,5 @@ returns-then-caught c =
 
 pub returns : goal.returns
 returns c =
-    let start = c in
     λ ρ w a.
-    sym (ap₂ (λ (s t : Bool). cond (not s && not t) 1 0) (ne_eqb start.args.fallen 0 c.if-fallen-eq0.false) (sym (c.caught.ensures ρ w a) ∙ c.if-caught.false))
+    sym (ap₂ (λ (s t : Bool). cond (not s && not t) 1 0) (ne_eqb c.args.fallen 0 c.if-fallen-eq0.false) (sym (c.caught.ensures ρ w a) ∙ c.if-caught.false))

@@ -1,14 +1,13 @@
 -- `worksheets::ends` meets its contract. The loop's invariant: the ways to end at the states below i, which is at most `live`, are written, the
 -- others are 0, and `fall` is the state that i falls to. The measure is how many states below `live` are left.
 -- Assumes nothing.
-use Prim.Native.Nat.{ℕ, zero, suc, ◌+◌, ◌-◌, ◌≤◌, ◌<◌}
+use Prim.Native.Nat.{ℕ, zero, suc, ◌+◌, ◌≤◌, ◌<◌}
 use mathlib.Core.Bool.{Bool, true, false, not, cond, ◌&&◌}
 use mathlib.Core.List.{List}
 use mathlib.Core.Path.{◌≡◌, refl, sym, ap, ◌∙◌}
 use native.Mathlib.Nat.{not-suc-le-zero, lt_of_lt_of_le, le_of_lt}
 use native.Mathlib.Numerals.{add-one}
 use native.Mathlib.Omega.{arith}
-use borrow.Author.Rules.{rules}
 use lib.Dec.{eqb}
 use lib.ListN.{length, get_or, set, drop}
 use Rattle.definitions.specs.Lists.{tabulate}
@@ -20,13 +19,11 @@ use Rattle.laws.specs.Threads.{caught}
 use Rattle.laws.specs.Acceptors.{below_hit}
 use Rattle.laws.specs.Tables.{antemer_end}
 use Rattle.laws.specs.Bans.{end-start, end-by-fall}
-use Rattle.states.specs.Tables.{All}
 use Rattle.worksheets.specs.Columns.{NextsOf, UpTo, entry_of, EntryReady, EndIs, end_ways}
 use Rattle.worksheets.proofs.Laws.{fits-place, fits_next, one-le, left_less, own-next, next-ready}
 use Rattle.worksheets.proofs.Rows.{up_to-more, up_to-none}
 use Rattle.worksheets.proofs.ends.Invariants.{Ended}
 use Rattle.worksheets.proofs.ends.Goals as goal
-use Rattle.worksheets.proofs.ends.Goals.{In-loop-i}
 
 -- ---- states
 
@@ -97,43 +94,41 @@ module _ {ρ : Ranking} {w : Word} {m : ℕ} {own marks nexts : List ℕ} (s : N
       (end_more ρ w i e.some (omega (arith, s.alphabets.word.long)) (e.written.below low (low-lt e) ∙ ap (end_ways ρ w) e.falls) p) in
       record { some = omega arith; written = rw add-one more; falls = low-on q }
 
--- the state is below m
-inside : (c : goal.In-loop-i) → c.loop-i.i < c.args.m
-inside c = lt_of_lt_of_le c.loop-i-test.true c.requires.in_range.1
-
--- the state that it falls to is one of those that are written
-low : (c : goal.In-loop-i) → c.loop-i.fall < 64
-low c =
-    let k = c.requires.known in
-    low_small k.2 (c.loop-i.invariant.1 k.0 k.1 k.2) (inside c)
+-- a state below `live` is below m
+inside : {i live m : ℕ} → i < live → (0 < live) × (live ≤ m) → i < m
+inside h r = lt_of_lt_of_le h r.1
 
 pub loop-i-init : goal.loop-i-init
 loop-i-init c = (c.requires.in_range.0, λ ρ w s. begun ρ w)
 
 pub offset_bounds-ends-fall : goal.offset_bounds-ends-fall
-offset_bounds-ends-fall c = fits-place (low (goal.at.offset_bounds-ends-fall c).In-loop-i)
+offset_bounds-ends-fall c =
+    let k = c.requires.known in
+    fits-place (low_small k.2 (c.loop-i.invariant.1 k.0 k.1 k.2) (inside c.loop-i-test.true c.requires.in_range))
 
 pub bounds-ends-fall : goal.bounds-ends-fall
-bounds-ends-fall c = low (goal.at.bounds-ends-fall c).In-loop-i
+bounds-ends-fall c =
+    let k = c.requires.known in
+    low_small k.2 (c.loop-i.invariant.1 k.0 k.1 k.2) (inside c.loop-i-test.true c.requires.in_range)
 
 pub end_at-requires : goal.end_at-requires
 end_at-requires c =
     let k = c.requires.known in
-    ((k.0, k.1, k.2.alphabets), le_of_lt (inside (goal.at.end_at-requires c).In-loop-i))
+    record { known = (k.0, k.1, k.2.alphabets); in_range = le_of_lt (inside c.loop-i-test.true c.requires.in_range) }
 
 pub offset_bounds-ends-i : goal.offset_bounds-ends-i
-offset_bounds-ends-i c = fits-place (state-small c.requires.known.2 (inside (goal.at.offset_bounds-ends-i c).In-loop-i))
+offset_bounds-ends-i c = fits-place (state-small c.requires.known.2 (inside c.loop-i-test.true c.requires.in_range))
 
 pub bounds-ends-i : goal.bounds-ends-i
-bounds-ends-i c = state-small c.requires.known.2 (inside (goal.at.bounds-ends-i c).In-loop-i)
+bounds-ends-i c = state-small c.requires.known.2 (inside c.loop-i-test.true c.requires.in_range)
 
 pub own_entry-fall-requires : goal.own_entry-fall-requires
 own_entry-fall-requires c =
     let k = c.requires.known in
-    fall-ready k.2 (c.loop-i.invariant.1 k.0 k.1 k.2) (inside (goal.at.own_entry-fall-requires c).In-loop-i)
+    fall-ready k.2 (c.loop-i.invariant.1 k.0 k.1 k.2) (inside c.loop-i-test.true c.requires.in_range)
 
 pub overflow_add-i : goal.overflow_add-i
-overflow_add-i c = fits_next (state-small c.requires.known.2 (inside (goal.at.overflow_add-i c).In-loop-i))
+overflow_add-i c = fits_next (state-small c.requires.known.2 (inside c.loop-i-test.true c.requires.in_range))
 
 pub loop-i-smaller : goal.loop-i-smaller
 loop-i-smaller c = left_less c.loop-i-test.true
@@ -142,7 +137,7 @@ pub loop-i-preserved : goal.loop-i-preserved
 loop-i-preserved c =
     let at = c.loop-i in
     let turn = c.loop-i-test.true in
-    (one-le turn, λ ρ w s. one_more s (at.invariant.1 ρ w s) (inside (goal.at.loop-i-preserved c).In-loop-i) (c.end_at.ensures ρ w s.alphabets) c.own_entry-fall.ensures)
+    (one-le turn, λ ρ w s. one_more s (at.invariant.1 ρ w s) (inside turn c.requires.in_range) (c.end_at.ensures ρ w s.alphabets) c.own_entry-fall.ensures)
 
 pub returns : goal.returns
 returns c =

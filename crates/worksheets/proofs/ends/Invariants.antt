@@ -1,29 +1,14 @@
 -- `worksheets::ends` meets its contract. The loop's invariant: the ways to end at the states below i, which is at most `live`, are written, the
 -- others are 0, and `fall` is the state that i falls to. The measure is how many states below `live` are left.
 -- Assumes nothing.
-use Prim.Native.Nat.{ℕ, zero, suc, ◌+◌, ◌-◌, ◌≤◌, ◌<◌}
-use mathlib.Core.Bool.{Bool, true, false, not, cond, ◌&&◌}
+use Prim.Native.Nat.{ℕ, ◌-◌, ◌≤◌, ◌<◌}
 use mathlib.Core.List.{List}
-use mathlib.Core.Path.{◌≡◌, refl, sym, ap, ◌∙◌}
-use native.Mathlib.Nat.{not-suc-le-zero, lt_of_lt_of_le, le_of_lt}
-use native.Mathlib.Numerals.{add-one}
-use native.Mathlib.Omega.{arith}
-use borrow.Author.Rules.{rules}
-use lib.Dec.{eqb}
-use lib.ListN.{length, get_or, set, drop}
-use Rattle.definitions.specs.Lists.{tabulate}
+use mathlib.Core.Path.{◌≡◌}
 use Rattle.definitions.specs.Words.{Word}
 use Rattle.laws.specs.Orders.{Ranking}
-use Rattle.laws.specs.States.{next}
-use Rattle.laws.specs.Falls.{fall, fall-le, fall-by-next}
-use Rattle.laws.specs.Threads.{caught}
-use Rattle.laws.specs.Acceptors.{below_hit}
-use Rattle.laws.specs.Tables.{antemer_end}
-use Rattle.laws.specs.Bans.{end-start, end-by-fall}
+use Rattle.laws.specs.Falls.{fall}
 use Rattle.states.specs.Tables.{All}
-use Rattle.worksheets.specs.Columns.{NextsOf, UpTo, entry_of, EntryReady, EndIs, end_ways}
-use Rattle.worksheets.proofs.Laws.{fits-place, fits_next, one-le, left_less, own-next, next-ready}
-use Rattle.worksheets.proofs.Rows.{up_to-more, up_to-none}
+use Rattle.worksheets.specs.Columns.{NextsOf, UpTo, end_ways}
 use Rattle.worksheets.proofs.ends.Given as goal
 
 -- the ways to end at the states below i are written, and a state is the one that i falls to
@@ -33,7 +18,7 @@ pub record Ended (ρ : Ranking) (w : Word) (i : ℕ) (ends : List ℕ) (low : �
   pub falls : low ≡ fall w i
 
 abbrev pub invariant-loop-i : goal.invariant-loop-i
-invariant-loop-i l = 
+invariant-loop-i l =
     (l.i ≤ l.live) × All (λ ρ w. NextsOf ρ w l.m l.own l.marks l.next) (λ ρ w. Ended ρ w l.i l.ends l.fall)
 
 abbrev pub decreases-loop-i : goal.decreases-loop-i

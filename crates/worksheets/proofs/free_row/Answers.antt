@@ -1,10 +1,10 @@
 -- `worksheets::free_row` meets its contract. The loop's invariant: the entries below i are written. The measure is how many are left.
 -- Assumes nothing.
-use Prim.Native.Nat.{◌+◌, ◌-◌, ◌≤◌, ◌<◌}
+use Prim.Native.Nat.{◌+◌, ◌<◌}
 use mathlib.Core.Path.{◌≡◌, refl}
 use native.Mathlib.Numerals.{add-one}
 use native.Mathlib.Omega.{arith}
-use Rattle.laws.specs.Rooms.{Written, written_none, written-up}
+use Rattle.laws.specs.Rooms.{written_none, written-up}
 use Rattle.worksheets.proofs.free_row.Goals as goal
 use Rattle.worksheets.proofs.free_row.Goals.{In-loop-i}
 

@@ -1,17 +1,15 @@
 -- `worksheets::lasts` meets its contract. The loop's invariant: the rows are those in which the first j letters of w are allowed. The measure
 -- is how many letters are left.
 -- Assumes nothing.
-use Prim.Native.Nat.{ℕ, ◌+◌, ◌-◌, ◌≤◌, ◌<◌, min}
+use Prim.Native.Nat.{ℕ, ◌+◌, ◌-◌, ◌<◌, min}
 use mathlib.Core.List.{List}
 use mathlib.Core.Path.{◌≡◌, refl, sym, ap, ap₂, ◌∙◌}
 use native.Mathlib.Numerals.{add-one}
 use native.Mathlib.Omega.{arith}
-use borrow.Author.Rules.{rules}
 use lib.ListN.{length}
 use Rattle.definitions.specs.Words.{Word}
 use Rattle.laws.specs.Orders.{Ranking}
 use Rattle.laws.specs.Bans.{lasts, low_by}
-use Rattle.states.specs.Tables.{All}
 use Rattle.worksheets.specs.Columns.{BansOf, entry_of, LastsIs}
 use Rattle.worksheets.proofs.Laws.{own-ban, own-later, own-never, ban-ready}
 use Rattle.worksheets.proofs.lasts.Goals as goal

@@ -1,7 +1,6 @@
 -- `worksheets::postmers` meets its contract: what the column counts are the postmers.
 -- Assumes nothing.
 use native.Mathlib.Omega.{arith}
-use borrow.Author.Rules.{rules}
 use Rattle.laws.specs.Tables.{postmer_ways}
 use Rattle.worksheets.proofs.Laws.{moves-bans}
 use Rattle.worksheets.proofs.Rows.{up_to-written}
@@ -20,22 +19,21 @@ overflow_sub-last c =
 
 pub column-requires : goal.column-requires
 column-requires c =
-    let start = c in
-    let known = start.requires.known in (
-      (
+    let known = c.requires.known in
+    record {
+      countable = (
         postmer_ways known.0 known.1,
-        postmer-side known.2 start.args.k start.requires.in_range.0 start.requires.in_range.1 c.lesser-rows.ensures
+        postmer-side known.2 c.args.k c.requires.in_range.0 c.requires.in_range.1 c.lesser-rows.ensures
             (c.lasts-last.ensures known.0 known.1 (moves-bans known.2)) (up_to-written c.free_row.ensures),
-      ),
-      start.requires.powers_are,
-    )
+      );
+      powers_are = c.requires.powers_are;
+    }
 
 pub returns : goal.returns
 returns c = λ ρ w s.
-    let start = c in
-    let k = start.args.k in
-    let fits = start.requires.in_range.0 in
-    let few = start.requires.in_range.1 in
+    let k = c.args.k in
+    let fits = c.requires.in_range.0 in
+    let few = c.requires.in_range.1 in
     let rows = c.lesser-rows.ensures in
     let last = c.lasts-last.ensures ρ w (moves-bans s) in
     postmer-column s k fits few rows last

@@ -3,7 +3,6 @@
 use Prim.Native.Nat.{◌-◌}
 use mathlib.Core.Path.{◌∙◌}
 use native.Mathlib.Omega.{arith}
-use borrow.Author.Rules.{rules}
 use lib.ListN.{length, get_or, drop}
 use lib.Seq.{get_or-take, get_or-drop}
 use Rattle.worksheets.proofs.way.Goals as goal

@@ -4,7 +4,6 @@
 use Prim.Native.Nat.{ℕ, zero, suc}
 use mathlib.Core.List.{List}
 use mathlib.Core.Path.{◌≡◌, refl, sym, ap, ap₂, ◌∙◌}
-use borrow.Author.Rules.{rules}
 use lib.ListN.{replicate}
 use Rattle.definitions.specs.Words.{Word, word as word_of}
 use Rattle.definitions.specs.Vigemins.{Form}
@@ -15,7 +14,7 @@ use Rattle.laws.specs.Accepted.{word-accepted}
 use Rattle.states.specs.Answers as prepare
 use Rattle.worksheets.specs.Columns.{StatesOf}
 use Rattle.worksheets.proofs.worksheet.Goals as goal
-use Rattle.worksheets.proofs.worksheet.Goals.{After-prepare-prepared, Else-prepared-ne0}
+use Rattle.worksheets.proofs.worksheet.Goals.{Else-prepared-ne0}
 
 -- beside a refusal stand zeros
 refused : (r : ℕ) → (r ≡ 0 → ⊥) → (f : Form) (k m : ℕ) (w : Word)
@@ -25,14 +24,12 @@ refused zero h f k m w = absurd (h refl)
 refused (suc r) h f k m w = refl
 
 -- the refusal is that of the shelf
-given : (c : goal.After-prepare-prepared) → let args = c.args in c.prepare-prepared.result.refusal ≡ refusal (shelf_grounds args.k args.m args.key args.word)
-given c =
-    let args = c.args in
-    ap (λ (o : prepare.Prepared). o.refusal) c.prepare-prepared.ensures ∙ prepare.prepare-refusal args.k args.m args.key args.word
+given : (k m key word : ℕ) {o : prepare.Prepared} → o ≡ prepare.prepare_outcome k m key word → o.refusal ≡ refusal (shelf_grounds k m key word)
+given k m key word e = ap (λ (o : prepare.Prepared). o.refusal) e ∙ prepare.prepare-refusal k m key word
 
 -- where the refusal is 0, nothing is refused
 none : (c : goal.Else-prepared-ne0) → let args = c.args in refusal (shelf_grounds args.k args.m args.key args.word) ≡ 0
-none c = sym (given c) ∙ c.if-prepared-ne0.false
+none c = sym (given _ _ _ _ c.prepare-prepared.ensures) ∙ c.if-prepared-ne0.false
 
 -- and the states are those of the word under the key
 stated : (c : goal.Else-prepared-ne0)
@@ -53,17 +50,20 @@ stated c =
 
 pub returns-then-prepared-ne0 : goal.returns-then-prepared-ne0
 unfolding worksheet_outcome
-returns c = rw (← given (goal.at.returns-then-prepared-ne0 c).After-prepare-prepared) (refused c.prepare-prepared.result.refusal c.if-prepared-ne0.true _ _ _ _)
+returns-then-prepared-ne0 c = rw (← given _ _ _ _ c.prepare-prepared.ensures) (refused c.prepare-prepared.result.refusal c.if-prepared-ne0.true _ _ _ _)
 
 pub sheet_of-sheet-requires : goal.sheet_of-sheet-requires
 sheet_of-sheet-requires c =
     let args = c.args in
     let order = (word-accepted args.m args.k args.m args.key args.word (none (goal.at.sheet_of-sheet-requires c).Else-prepared-ne0)).order in
-    ((key_ranking (word_of args.m args.key), word_of args.m args.word, stated (goal.at.sheet_of-sheet-requires c).Else-prepared-ne0), (order.m_fits, order.k_few))
+    record {
+      known = (key_ranking (word_of args.m args.key), word_of args.m args.word, stated (goal.at.sheet_of-sheet-requires c).Else-prepared-ne0);
+      in_range = (order.m_fits, order.k_few);
+    }
 
 pub returns : goal.returns
 unfolding worksheet_outcome worksheet_answer
-returns-2 c =
+returns c =
     let args = c.args in
     let sheet = c.sheet_of-sheet.ensures (key_ranking (word_of args.m args.key)) (word_of args.m args.word) (stated (goal.at.returns c).Else-prepared-ne0) in
     rw (none (goal.at.returns c).Else-prepared-ne0, keyed-ranked (word_of args.m args.key))
