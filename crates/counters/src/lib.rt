@@ -4,6 +4,7 @@
 // As in document 01 letters are counted from 1: a1..am is the word, c1..cm the key. Antemers are split by i, the length of the longest prefix
 // that they share with the word.
 #![tactic(auto)]
+
 ghost use Rattle.std.specs.Prelude.{◌≡◌, true, cond, ◌+◌, ◌-◌, ◌≤◌, ◌<◌, length, take};
 ghost use Rattle.definitions.specs.Lists.{filter};
 ghost use Rattle.definitions.specs.Words.{letters, word as word_of};

@@ -6,6 +6,7 @@
 // behind the start nothing is passed over any more. So a page costs one descent and then a few steps for each further k-mer: where
 // every word completes a beginning, and where nothing but the rest of the word itself does, what follows is written at once.
 #![tactic(auto)]
+
 ghost use Rattle.std.specs.Prelude.{◌≡◌, cond, List, ℕ, suc, ◌+◌, ◌-◌, ◌*◌, ◌^◌, ◌≤◌, ◌<◌, eqb, length};
 ghost use Rattle.definitions.specs.Lists.{tabulate};
 ghost use Rattle.definitions.specs.Outcomes.{page_outcome};

@@ -1,20 +1,16 @@
 -- `counters::banned` meets its contract. The loop's invariant: none of the shared lengths that it passed bans an antemer. The measure is how
 -- many are left.
 -- Assumes nothing.
-use Prim.Native.Nat.{suc, ◌-◌}
 use mathlib.Core.Path.{sym, ◌∙◌}
 use native.Mathlib.Omega.{arith}
-use Rattle.definitions.specs.Words.{word as word_of}
-use Rattle.laws.specs.Orders.{key_ranking}
-use Rattle.counters.specs.Settings.{is_below_at}
-use Rattle.counters.proofs.Searches.{Searched, searched-first, searched-more, searched-found, searched-none}
+use Rattle.counters.proofs.Searches.{searched-first, searched-more, searched-found, searched-none}
 use Rattle.counters.proofs.banned.Goals as goal
 
 pub loop-shared-init : goal.loop-shared-init
 loop-shared-init c = searched-first (omega arith)
 
 pub below_at-requires : goal.below_at-requires
-below_at-requires c = (c.requires.set_to, omega (arith, c.loop-shared.invariant.from))
+below_at-requires c = record { set_to = c.requires.set_to; in_range = omega (arith, c.loop-shared.invariant.from) }
 
 pub returns-then-below_at : goal.returns-then-below_at
 returns-then-below_at c = sym (searched-found c.loop-shared.invariant (omega arith) (sym c.below_at.ensures ∙ c.if-below_at.true))

@@ -2,12 +2,10 @@
 -- many are left.
 -- Assumes nothing.
 use Prim.Native.Nat.{suc, ◌-◌}
-use mathlib.Core.Path.{sym, ◌∙◌}
-use native.Mathlib.Omega.{arith}
 use Rattle.definitions.specs.Words.{word as word_of}
 use Rattle.laws.specs.Orders.{key_ranking}
 use Rattle.counters.specs.Settings.{is_below_at}
-use Rattle.counters.proofs.Searches.{Searched, searched-first, searched-more, searched-found, searched-none}
+use Rattle.counters.proofs.Searches.{Searched}
 use Rattle.counters.proofs.banned.Given as goal
 
 abbrev pub invariant-loop-shared : goal.invariant-loop-shared

@@ -1,13 +1,9 @@
 -- `counters::below_at` meets its contract. The loop's invariant: no R(i,j) that it passed is below. The measure is how many are left.
 -- Assumes nothing.
-use Prim.Native.Nat.{suc, ◌-◌}
 use mathlib.Core.Path.{sym, ◌∙◌}
 use native.Mathlib.Omega.{arith}
 use borrow.Author.Tests.{eq-eqb, ne_eqb}
-use Rattle.definitions.specs.Words.{word as word_of}
-use Rattle.laws.specs.Orders.{key_ranking}
-use Rattle.counters.proofs.Searches.{Searched, searched-first, searched-more, searched-found, searched-none}
-use Rattle.counters.specs.Settings.{low_at}
+use Rattle.counters.proofs.Searches.{searched-first, searched-more, searched-found, searched-none}
 use Rattle.counters.proofs.Tests.{low-tested}
 use Rattle.counters.proofs.below_at.Goals as goal
 
@@ -15,13 +11,12 @@ pub loop-j-init : goal.loop-j-init
 loop-j-init c = searched-first (omega arith)
 
 pub compared-requires : goal.compared-requires
-compared-requires c = (c.requires.set_to, omega (arith, c.loop-j.invariant.from))
+compared-requires c = record { set_to = c.requires.set_to; in_range = omega (arith, c.loop-j.invariant.from) }
 
 pub returns-then-compared-eq-BELOW : goal.returns-then-compared-eq-BELOW
 returns-then-compared-eq-BELOW c =
     let at = c.loop-j in
-    let start = c in
-    sym (searched-found at.invariant (omega arith) (low-tested _ _ start.args.i at.j at.invariant.from c.compared.ensures (omega arith) ∙ eq-eqb c.compared.result 0 (omega arith)))
+    sym (searched-found at.invariant (omega arith) (low-tested _ _ c.args.i at.j at.invariant.from c.compared.ensures (omega arith) ∙ eq-eqb c.compared.result 0 (omega arith)))
 
 pub overflow_add-j : goal.overflow_add-j
 overflow_add-j c = omega (arith, c.requires.set_to.few)
@@ -32,8 +27,7 @@ loop-j-smaller c = omega arith
 pub loop-j-preserved : goal.loop-j-preserved
 loop-j-preserved c =
     let at = c.loop-j in
-    let start = c in
-    searched-more at.invariant (omega arith) (low-tested _ _ start.args.i at.j at.invariant.from c.compared.ensures (omega arith) ∙ ne_eqb c.compared.result 0 (omega arith))
+    searched-more at.invariant (omega arith) (low-tested _ _ c.args.i at.j at.invariant.from c.compared.ensures (omega arith) ∙ ne_eqb c.compared.result 0 (omega arith))
 
 pub returns : goal.returns
 returns c = sym (searched-none c.loop-j.invariant (omega arith))

@@ -1,14 +1,10 @@
 -- `counters::below_at` meets its contract. The loop's invariant: no R(i,j) that it passed is below. The measure is how many are left.
 -- Assumes nothing.
 use Prim.Native.Nat.{suc, ◌-◌}
-use mathlib.Core.Path.{sym, ◌∙◌}
-use native.Mathlib.Omega.{arith}
-use borrow.Author.Tests.{eq-eqb, ne_eqb}
 use Rattle.definitions.specs.Words.{word as word_of}
 use Rattle.laws.specs.Orders.{key_ranking}
-use Rattle.counters.proofs.Searches.{Searched, searched-first, searched-more, searched-found, searched-none}
+use Rattle.counters.proofs.Searches.{Searched}
 use Rattle.counters.specs.Settings.{low_at}
-use Rattle.counters.proofs.Tests.{low-tested}
 use Rattle.counters.proofs.below_at.Given as goal
 
 abbrev pub invariant-loop-j : goal.invariant-loop-j

@@ -1,15 +1,12 @@
 -- `counters::least_tied` meets its contract. The loop's invariant: at no j that it passed is R(i,j) equal and the letter a(i-j+2). The measure
 -- is how many are left.
 -- Assumes nothing.
-use Prim.Native.Nat.{suc, ◌-◌}
 use mathlib.Core.Bool.{true, ◌&&◌}
 use mathlib.Core.Path.{◌≡◌, ◌∙◌}
 use native.Mathlib.Omega.{arith}
 use lib.Dec.{eqb}
-use Rattle.definitions.specs.Words.{word as word_of}
-use Rattle.laws.specs.Orders.{key_ranking}
-use Rattle.counters.proofs.Searches.{Searched, searched-first, searched-more, searched-first-place, searched-no-place}
-use Rattle.counters.proofs.Tests.{ties, ties-tested}
+use Rattle.counters.proofs.Searches.{searched-first, searched-more, searched-first-place, searched-no-place}
+use Rattle.counters.proofs.Tests.{ties-tested}
 use Rattle.counters.proofs.least_tied.Goals as goal
 
 pub loop-j-init : goal.loop-j-init
@@ -19,7 +16,7 @@ pub overflow_add-i : goal.overflow_add-i
 overflow_add-i c = omega (arith, c.requires.set_to.few)
 
 pub compared-requires : goal.compared-requires
-compared-requires c = (c.requires.set_to, omega (arith, c.loop-j.invariant.from))
+compared-requires c = record { set_to = c.requires.set_to; in_range = omega (arith, c.loop-j.invariant.from) }
 
 pub overflow_add-i-in-loop-j : goal.overflow_add-i-in-loop-j
 overflow_add-i-in-loop-j c = omega (arith, c.requires.set_to.few)
@@ -28,7 +25,7 @@ pub overflow_sub-i : goal.overflow_sub-i
 overflow_sub-i c = omega arith
 
 pub letter_sign-requires : goal.letter_sign-requires
-letter_sign-requires c = (c.requires.set_to, omega (arith, c.loop-j.invariant.from))
+letter_sign-requires c = record { set_to = c.requires.set_to; in_range = omega (arith, c.loop-j.invariant.from) }
 
 pub returns-then-compared-letter_sign : goal.returns-then-compared-letter_sign
 returns-then-compared-letter_sign c =

@@ -2,14 +2,10 @@
 -- is how many are left.
 -- Assumes nothing.
 use Prim.Native.Nat.{suc, ◌-◌}
-use mathlib.Core.Bool.{true, ◌&&◌}
-use mathlib.Core.Path.{◌≡◌, ◌∙◌}
-use native.Mathlib.Omega.{arith}
-use lib.Dec.{eqb}
 use Rattle.definitions.specs.Words.{word as word_of}
 use Rattle.laws.specs.Orders.{key_ranking}
-use Rattle.counters.proofs.Searches.{Searched, searched-first, searched-more, searched-first-place, searched-no-place}
-use Rattle.counters.proofs.Tests.{ties, ties-tested}
+use Rattle.counters.proofs.Searches.{Searched}
+use Rattle.counters.proofs.Tests.{ties}
 use Rattle.counters.proofs.least_tied.Given as goal
 
 abbrev pub invariant-loop-j : goal.invariant-loop-j

@@ -19,9 +19,8 @@ overflow_shr-key_letter c = omega arith
 
 pub returns : goal.returns
 returns c =
-    let start = c in
-    let args = start.args in
+    let args = c.args in
     let some : 0 < args.i = omega arith in
     let inside : args.i ≤ args.s.m = omega arith in
     let small : args.letter < 4 = omega arith in
-    letter-signed start.requires.set_to args.i args.letter some inside small c.sign.ensures
+    letter-signed c.requires.set_to args.i args.letter some inside small c.sign.ensures

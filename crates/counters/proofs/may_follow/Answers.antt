@@ -1,22 +1,19 @@
 -- `counters::may_follow` meets its contract. The loop's invariant: at no j that it passed is the letter hindered, so that R(i,j) is equal and the
 -- letter neither lies in Σ(i-j+2) nor is a(i-j+2). The measure is how many are left.
 -- Assumes nothing.
-use Prim.Native.Nat.{suc, ◌-◌}
 use mathlib.Core.Bool.{true, ◌&&◌}
 use mathlib.Core.Path.{◌≡◌, ◌∙◌}
 use native.Mathlib.Omega.{arith}
 use lib.Dec.{eqb}
-use Rattle.definitions.specs.Words.{word as word_of}
-use Rattle.laws.specs.Orders.{key_ranking}
-use Rattle.counters.proofs.Searches.{Searched, searched-first, searched-more, searched-found, searched-none}
-use Rattle.counters.proofs.Tests.{hinders, hinders-tested, not-special, not-hindered, hindered}
+use Rattle.counters.proofs.Searches.{searched-first, searched-more, searched-found, searched-none}
+use Rattle.counters.proofs.Tests.{hinders-tested, not-special, not-hindered, hindered}
 use Rattle.counters.proofs.may_follow.Goals as goal
 
 pub overflow_add-i : goal.overflow_add-i
 overflow_add-i c = omega (arith, c.requires.set_to.few)
 
 pub letter_sign-requires : goal.letter_sign-requires
-letter_sign-requires c = (c.requires.set_to, omega arith)
+letter_sign-requires c = record { set_to = c.requires.set_to; in_range = omega arith }
 
 pub returns-then-letter_sign-ne-ABOVE : goal.returns-then-letter_sign-ne-ABOVE
 returns-then-letter_sign-ne-ABOVE c =
@@ -31,8 +28,7 @@ overflow_add-i-in-loop-j c = omega (arith, c.requires.set_to.few)
 
 pub compared-requires : goal.compared-requires
 compared-requires c =
-    let pre = c.requires in
-    (pre.0, omega (arith, pre, c.loop-j.invariant.from))
+    record { set_to = c.requires.set_to; in_range = omega (arith, c.requires.in_range, c.loop-j.invariant.from) }
 
 pub overflow_add-i-in-loop-j-2 : goal.overflow_add-i-in-loop-j-2
 overflow_add-i-in-loop-j-2 c = omega (arith, c.requires.set_to.few)
@@ -42,8 +38,7 @@ overflow_sub-i c = omega arith
 
 pub letter_sign-requires-in-loop-j : goal.letter_sign-requires-in-loop-j
 letter_sign-requires-in-loop-j c =
-    let pre = c.requires in
-    (pre.0, omega (arith, pre, c.loop-j.invariant.from))
+    record { set_to = c.requires.set_to; in_range = omega (arith, c.requires.in_range, c.loop-j.invariant.from) }
 
 pub returns-then-compared-letter_sign : goal.returns-then-compared-letter_sign
 returns-then-compared-letter_sign c =
@@ -68,6 +63,5 @@ loop-j-preserved c =
 
 pub returns : goal.returns
 returns c =
-    let first = c in
-    let args = first.args in
-    not-hindered _ _ args.i args.letter first.letter_sign.ensures first.if-letter_sign-ne-ABOVE.false (searched-none c.loop-j.invariant (omega arith))
+    let args = c.args in
+    not-hindered _ _ args.i args.letter c.letter_sign.ensures c.if-letter_sign-ne-ABOVE.false (searched-none c.loop-j.invariant (omega arith))

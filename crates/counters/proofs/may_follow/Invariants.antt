@@ -2,14 +2,10 @@
 -- letter neither lies in Σ(i-j+2) nor is a(i-j+2). The measure is how many are left.
 -- Assumes nothing.
 use Prim.Native.Nat.{suc, ◌-◌}
-use mathlib.Core.Bool.{true, ◌&&◌}
-use mathlib.Core.Path.{◌≡◌, ◌∙◌}
-use native.Mathlib.Omega.{arith}
-use lib.Dec.{eqb}
 use Rattle.definitions.specs.Words.{word as word_of}
 use Rattle.laws.specs.Orders.{key_ranking}
-use Rattle.counters.proofs.Searches.{Searched, searched-first, searched-more, searched-found, searched-none}
-use Rattle.counters.proofs.Tests.{hinders, hinders-tested, not-special, not-hindered, hindered}
+use Rattle.counters.proofs.Searches.{Searched}
+use Rattle.counters.proofs.Tests.{hinders}
 use Rattle.counters.proofs.may_follow.Given as goal
 
 abbrev pub invariant-loop-j : goal.invariant-loop-j

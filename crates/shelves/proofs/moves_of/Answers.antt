@@ -1,15 +1,15 @@
 -- `shelves::moves_of` meets its contract. The loop's invariant: the entries of the places below c are right. The measure is how many are left.
 -- Assumes nothing.
-use Prim.Native.Nat.{◌-◌, ◌≤◌}
+use Prim.Native.Nat.{◌≤◌}
 use mathlib.Core.Path.{refl}
 use native.Mathlib.Omega.{arith}
 use lib.ListN.{get_or}
-use Rattle.shelves.proofs.Ways.{MovesTo, moves-none, moves_more, moves-all}
+use Rattle.shelves.proofs.Ways.{moves-none, moves_more, moves-all}
 use Rattle.shelves.proofs.moves_of.Goals as goal
-use Rattle.shelves.proofs.moves_of.Goals.{After-to-1}
+use Rattle.shelves.proofs.moves_of.Goals.{In-loop-c}
 
 -- the next state is small
-small : (c : goal.After-to-1) → get_or c.args.next.now c.loop-c.c 0 ≤ 31
+small : (c : goal.In-loop-c) → get_or c.args.next.now c.loop-c.c 0 ≤ 31
 small c = c.requires.small _ (omega arith)
 
 pub loop-c-init : goal.loop-c-init
@@ -19,10 +19,10 @@ pub bounds-next-c : goal.bounds-next-c
 bounds-next-c c = omega arith
 
 pub overflow_add-after : goal.overflow_add-after
-overflow_add-after c = omega (arith, small (goal.at.overflow_add-after c).After-to-1)
+overflow_add-after c = omega (arith, small (goal.at.overflow_add-after c).In-loop-c)
 
 pub arrive-requires : goal.arrive-requires
-arrive-requires c = small (goal.at.arrive-requires c).After-to-1
+arrive-requires c = small (goal.at.arrive-requires c).In-loop-c
 
 pub bounds-moves-c : goal.bounds-moves-c
 bounds-moves-c c = omega arith

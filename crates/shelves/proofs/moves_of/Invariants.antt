@@ -1,10 +1,7 @@
 -- `shelves::moves_of` meets its contract. The loop's invariant: the entries of the places below c are right. The measure is how many are left.
 -- Assumes nothing.
 use Prim.Native.Nat.{◌-◌, ◌≤◌}
-use mathlib.Core.Path.{refl}
-use native.Mathlib.Omega.{arith}
-use lib.ListN.{get_or}
-use Rattle.shelves.proofs.Ways.{MovesTo, moves-none, moves_more, moves-all}
+use Rattle.shelves.proofs.Ways.{MovesTo}
 use Rattle.shelves.proofs.moves_of.Given as goal
 
 abbrev pub invariant-loop-c : goal.invariant-loop-c

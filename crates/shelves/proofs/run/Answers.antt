@@ -1,20 +1,17 @@
 -- `shelves::run` meets its contract. The loop's invariant: the first i numbers are written. The measure is how many are left to be written.
 -- Assumes nothing.
-use Prim.Native.Nat.{◌-◌}
 use mathlib.Core.Path.{refl}
 use native.Mathlib.Omega.{arith}
-use borrow.Author.Rules.{rules}
-use Rattle.shelves.proofs.Listing.{Running, running-long, running_more, running-all}
+use Rattle.shelves.proofs.Listing.{running-long, running_more, running-all}
 use Rattle.shelves.proofs.run.Goals as goal
 
 pub loop-i-init : goal.loop-i-init
-loop-i-init c = refl }
+loop-i-init c = record { least = c.lesser-n.ensures; within = omega arith; writes = refl }
 
 pub overflow_add-room : goal.overflow_add-room
 overflow_add-room c =
-    let start = c in
     let at = c.loop-i in
-    omega (arith, start.requires, at.invariant.least)
+    omega (arith, c.requires, at.invariant.least)
 
 pub offset_bounds-room-i : goal.offset_bounds-room-i
 offset_bounds-room-i c =

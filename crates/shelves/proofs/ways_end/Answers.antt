@@ -1,11 +1,8 @@
 -- `shelves::ways_end` meets its contract. The loop's invariant: the ways from the states below `state` are written. The measure is how many are left.
 -- Assumes nothing.
-use Prim.Native.Nat.{◌-◌, ◌≤◌}
-use mathlib.Core.Bool.{cond}
 use mathlib.Core.Path.{◌≡◌}
 use native.Mathlib.Omega.{arith}
-use Rattle.laws.specs.Rooms.{Written, written_none}
-use Rattle.shelves.specs.Descents.{met}
+use Rattle.laws.specs.Rooms.{written_none}
 use Rattle.shelves.proofs.Ways.{met-bit, end_more}
 use Rattle.shelves.proofs.ways_end.Goals as goal
 

@@ -2,11 +2,8 @@
 -- Assumes nothing.
 use Prim.Native.Nat.{◌-◌, ◌≤◌}
 use mathlib.Core.Bool.{cond}
-use mathlib.Core.Path.{◌≡◌}
-use native.Mathlib.Omega.{arith}
-use Rattle.laws.specs.Rooms.{Written, written_none}
+use Rattle.laws.specs.Rooms.{Written}
 use Rattle.shelves.specs.Descents.{met}
-use Rattle.shelves.proofs.Ways.{met-bit, end_more}
 use Rattle.shelves.proofs.ways_end.Given as goal
 
 abbrev pub invariant-loop-state : goal.invariant-loop-state

@@ -18,16 +18,16 @@ summed c =
     c.ways_under-g_ways.ensures c.ways_under-t_ways.ensures
 
 pub ways_under-a_ways-requires : goal.ways_under-a_ways-requires
-ways_under-a_ways-requires c = (c.requires, omega arith)
+ways_under-a_ways-requires c = record { ready = c.requires; letter_bound = omega arith }
 
 pub ways_under-c_ways-requires : goal.ways_under-c_ways-requires
-ways_under-c_ways-requires c = (c.requires, omega arith)
+ways_under-c_ways-requires c = record { ready = c.requires; letter_bound = omega arith }
 
 pub ways_under-g_ways-requires : goal.ways_under-g_ways-requires
-ways_under-g_ways-requires c = (c.requires, omega arith)
+ways_under-g_ways-requires c = record { ready = c.requires; letter_bound = omega arith }
 
 pub ways_under-t_ways-requires : goal.ways_under-t_ways-requires
-ways_under-t_ways-requires c = (c.requires, omega arith)
+ways_under-t_ways-requires c = record { ready = c.requires; letter_bound = omega arith }
 
 pub overflow_add-result : goal.overflow_add-result
 overflow_add-result c = omega (arith, (summed (goal.at.overflow_add-result c).After-ways_under-t_ways).1)

@@ -1,10 +1,9 @@
 -- `shelves::ways_row` meets its contract. The loop's invariant: the ways from the states below `state` are written. The measure is how many are left.
 -- Assumes nothing.
-use Prim.Native.Nat.{◌+◌, ◌-◌, ◌*◌, ◌≤◌, ◌<◌}
+use Prim.Native.Nat.{◌+◌, ◌*◌, ◌<◌}
 use mathlib.Core.Path.{◌≡◌}
 use native.Mathlib.Omega.{arith}
-use Rattle.laws.specs.Rooms.{Written, written_none}
-use Rattle.shelves.specs.Descents.{ways_from}
+use Rattle.laws.specs.Rooms.{written_none}
 use Rattle.shelves.proofs.Ways.{row-ready, row_inside, row_more}
 use Rattle.shelves.proofs.ways_row.Goals as goal
 use Rattle.shelves.proofs.ways_row.Goals.{After-ways_on-sum}

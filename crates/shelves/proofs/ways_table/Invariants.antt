@@ -1,11 +1,7 @@
 -- `shelves::ways_table` meets its contract. The loop's invariant: the rows before row `left` are right. The measure is how many are left.
 -- Assumes nothing.
 use Prim.Native.Nat.{◌+◌, ◌-◌, ◌≤◌, ◌<◌}
-use mathlib.Core.Path.{◌≡◌}
-use native.Mathlib.Omega.{arith}
-use native.Mathlib.Numerals.{add-one}
 use Rattle.shelves.specs.Descents.{WaysTo}
-use Rattle.shelves.proofs.Ways.{row_zero, unmet-ready, met-ready, row-right}
 use Rattle.shelves.proofs.ways_table.Given as goal
 
 abbrev pub invariant-loop-left : goal.invariant-loop-left

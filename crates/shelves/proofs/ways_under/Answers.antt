@@ -5,14 +5,14 @@ use native.Mathlib.Omega.{arith}
 use Rattle.shelves.specs.Descents.{leads}
 use Rattle.shelves.proofs.Ways.{place-lt, way-lt, under-allowed, under-banned}
 use Rattle.shelves.proofs.ways_under.Goals as goal
-use Rattle.shelves.proofs.ways_under.Goals.{After-result-1, Start}
+use Rattle.shelves.proofs.ways_under.Goals.{Start, Then-few-ban}
 
 -- the entry is one of the moves
 inside : (c : goal.Start) → 4 * c.args.state + c.args.letter < 256
 inside c = place-lt c.requires.ready _ c.requires.letter_bound
 
 -- so is that of the ways where the letter leads
-leads-inside : (c : goal.After-result-1)
+leads-inside : (c : goal.Then-few-ban)
     → let args = c.args in 64 * (args.left - 1) + leads args.moves.now args.state args.letter < 2048
 leads-inside c = way-lt c.requires.ready _ c.requires.letter_bound
 
@@ -38,23 +38,21 @@ pub bounds-moves-c : goal.bounds-moves-c
 bounds-moves-c c = inside (goal.at.bounds-moves-c c).Start
 
 pub overflow_cast-result : goal.overflow_cast-result
-overflow_cast-result c = omega (arith, leads-inside (goal.at.overflow_cast-result c).After-result-1)
+overflow_cast-result c = omega (arith, leads-inside (goal.at.overflow_cast-result c).Then-few-ban)
 
 pub overflow_add-result : goal.overflow_add-result
-overflow_add-result c = omega (arith, leads-inside (goal.at.overflow_add-result c).After-result-1)
+overflow_add-result c = omega (arith, leads-inside (goal.at.overflow_add-result c).Then-few-ban)
 
 pub offset_bounds-ways-left : goal.offset_bounds-ways-left
-offset_bounds-ways-left c = omega (arith, leads-inside (goal.at.offset_bounds-ways-left c).After-result-1)
+offset_bounds-ways-left c = omega (arith, leads-inside (goal.at.offset_bounds-ways-left c).Then-few-ban)
 
 pub bounds-ways-left : goal.bounds-ways-left
-bounds-ways-left c = leads-inside (goal.at.bounds-ways-left c).After-result-1
+bounds-ways-left c = leads-inside (goal.at.bounds-ways-left c).Then-few-ban
 
 pub returns-then-few-ban : goal.returns-then-few-ban
 returns-then-few-ban c =
-    let start = c in
-    under-allowed start.requires.ready start.requires.letter_bound (omega arith)
+    under-allowed c.requires.ready c.requires.letter_bound (omega arith)
 
 pub returns : goal.returns
 returns c =
-    let start = c in
-    under-banned start.requires.ready start.args.letter (omega arith)
+    under-banned c.requires.ready c.args.letter (omega arith)
