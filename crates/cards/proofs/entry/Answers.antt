@@ -3,7 +3,8 @@
 use native.Mathlib.Omega.{arith}
 use Rattle.definitions.specs.Words.{word}
 use Rattle.definitions.specs.Cards.{ascii}
-use Rattle.cards.proofs.Laying.{laid_next, laid_as, laid-left, laid-length, laid-most, laid-decimal, decimal-short, label-left, lettered-told, entry-parts}
+use Rattle.cards.proofs.Laying.{laid_next, laid_as, laid-left, laid-length, laid-most, laid-decimal, decimal-short, label-left}
+use Rattle.cards.proofs.Laying.{lettered-told, entry-parts}
 use Rattle.cards.proofs.entry.Goals as goal
 
 pub decimal-at-requires : goal.decimal-at-requires
@@ -29,8 +30,9 @@ pub lay-requires : goal.lay-requires
 lay-requires c =
     let place = laid-decimal c.ranges.place.fits c.decimal-at.ensures in
     let letters = c.lettered-at.ensures in
-    rw (laid-left (laid_next place letters))
-    (omega (arith, place.long, decimal-short c.args.place (omega (arith, c.requires.0)), lettered-told (ascii " ") c.args.k c.args.kmer letters, c.requires.1.few, c.requires.1.fits))
+    let digits = decimal-short c.args.place (omega (arith, c.requires.0)) in
+    let told = lettered-told (ascii " ") c.args.k c.args.kmer letters in
+    rw (laid-left (laid_next place letters)) (omega (arith, place.long, digits, told, c.requires.1.few, c.requires.1.fits))
 
 pub returns : goal.returns
 returns c =

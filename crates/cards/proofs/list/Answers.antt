@@ -8,15 +8,6 @@ use Rattle.cards.proofs.list.Goals as goal
 pub loop-i-init : goal.loop-i-init
 loop-i-init c = record { few = omega arith; most = omega arith; laid = laid_none c.args.room.now }
 
-pub overflow_add-from : goal.overflow_add-from
-overflow_add-from c = omega (arith, c.requires.most)
-
-pub offset_bounds-kmers-i : goal.offset_bounds-kmers-i
-offset_bounds-kmers-i c = omega (arith, c.requires.most)
-
-pub bounds-kmers-i : goal.bounds-kmers-i
-bounds-kmers-i c = omega arith
-
 pub slice_bounds-entry-count : goal.slice_bounds-entry-count
 slice_bounds-entry-count c = let laid = c.loop-i.invariant.laid in omega (arith, laid-most laid, laid-length laid)
 
@@ -33,12 +24,6 @@ pub overflow_add-at : goal.overflow_add-at
 overflow_add-at c =
     let next = going_next c.requires c.loop-i.invariant (add-one c.loop-i.i) c.loop-i-test.true c.entry-at.ensures in
     omega (arith, next.most, c.requires.most)
-
-pub overflow_add-i : goal.overflow_add-i
-overflow_add-i c = omega (arith, c.requires.most)
-
-pub loop-i-smaller : goal.loop-i-smaller
-loop-i-smaller c = omega arith
 
 pub shape_of-room : goal.shape_of-room
 shape_of-room c = laid-length c.loop-i.invariant.laid

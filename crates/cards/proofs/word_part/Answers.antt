@@ -14,8 +14,9 @@ pub lay-at-requires : goal.lay-at-requires
 lay-at-requires c =
     let word = c.lettered-at.ensures in
     let size = c.numbered-at.ensures in
-    rw (laid-left (laid_next word size))
-    (omega (arith, lettered-told (ascii " word=") c.args.m c.args.word word, numbered-most (ascii " size=") c.args.size size, c.requires.few, c.requires.fits))
+    let told = lettered-told (ascii " word=") c.args.m c.args.word word in
+    let most = numbered-most (ascii " size=") c.args.size size in
+    rw (laid-left (laid_next word size)) (omega (arith, told, most, c.requires.few, c.requires.fits))
 
 pub returns : goal.returns
 returns c = laid_next (laid_next c.lettered-at.ensures c.numbered-at.ensures) c.lay-at.ensures

@@ -24,7 +24,8 @@ pub overflow_add-k-3 : goal.overflow_add-k-3
 overflow_add-k-3 c = omega (arith, cuts-short (cuts (goal.at.overflow_add-k-3 c).After-before-word), c.well_formed)
 
 pub returns-then-k-key : goal.returns-then-k-key
-returns-then-k-key c = reads_none (cuts (goal.at.returns-then-k-key c).After-before-word) (λ e. c.if-k-key.true (omega (arith, e))) c.malformed.ensures
+returns-then-k-key c =
+    reads_none (cuts (goal.at.returns-then-k-key c).After-before-word) (λ e. c.if-k-key.true (omega (arith, e))) c.malformed.ensures
 
 pub returns : goal.returns
 returns c = reads_whole (cuts (goal.at.returns c).After-before-word) (omega (arith, c.if-k-key.false)) c.read_parts.ensures
