@@ -1,8 +1,9 @@
 // The shelf printer's whole answer, from the bytes that were read: the card of a shelf. Assumes nothing.
 #![tactic(auto)]
+
 ghost use Rattle.std.specs.Prelude.{◌≡◌, cond, [], ◌∷◌, ◌++◌, map, ◌≤◌, ◌<◌, ◌+◌, eqb, length};
 ghost use Rattle.definitions.specs.Words.{word as word_of, text as written};
-ghost use Rattle.definitions.specs.Cards.{ascii, decimal as decimalText, entries, settings, card_outcome};
+ghost use Rattle.definitions.specs.Cards.{ascii, decimal as decimal_text, entries, settings, card_outcome};
 ghost use Rattle.cards.specs.Texts.{Laid, LaidDecimal, WordFits, SettingsFit, KmersFit, key_part_text, word_part_text};
 ghost use Rattle.cards.specs.Answers.{printed, asked_of, Wrote, Answers};
 
@@ -38,7 +39,7 @@ fn decimal(number: u64, room: &mut [u8]) -> usize
 // Writes a label and a number.
 fn numbered(label: &[u8], number: u64, room: &mut [u8]) -> usize
     requires { length label.now + 20 ≤ length room.old }
-    ensures { Laid (label.now ++ decimalText number) result room.old room.new }
+    ensures { Laid (label.now ++ decimal_text number) result room.old room.new }
 {
     let at = lay(label, room);
     at + decimal(number, &mut room[at..])
@@ -119,7 +120,7 @@ struct Told {
 // Writes the line of a refusal.
 fn refused(refusal: u64, room: &mut [u8]) -> Told
     requires { 29 ≤ length room.old }
-    ensures { Wrote refusal (ascii "refused " ++ decimalText refusal ++ ascii "\n") result room.old room.new }
+    ensures { Wrote refusal (ascii "refused " ++ decimal_text refusal ++ ascii "\n") result room.old room.new }
 {
     let at = numbered(b"refused ", refusal, room);
     let end = lay(b"\n", &mut room[at..]);

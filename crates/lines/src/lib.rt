@@ -1,8 +1,9 @@
 // The line that the shelf printer reads: k, a key and a word. Assumes nothing.
 #![tactic(auto)]
+
 ghost use Rattle.std.specs.Prelude.{◌≡◌, eqb};
 ghost use Rattle.definitions.specs.Lists.{first_place};
-ghost use Rattle.definitions.specs.Cards.{before as beforeFirst, behind as behind_first, read_outcome};
+ghost use Rattle.definitions.specs.Cards.{before as before_first, behind as behind_first, read_outcome};
 ghost use Rattle.lines.specs.Answers.{lined, digit_of, spelled_in, malformed_line, parts_outcome};
 
 // The place of the first such byte; the length where there is none.
@@ -21,7 +22,7 @@ fn find(byte: u8, text: &[u8]) -> usize
 
 // The part of a text before the first such byte; all where there is none.
 fn before(byte: u8, text: &[u8]) -> &[u8]
-    ensures { result.now ≡ beforeFirst byte text.now }
+    ensures { result.now ≡ before_first byte text.now }
 {
     let at = find(byte, text);
     &text[..at]

@@ -1,5 +1,6 @@
 // Words: packing and unpacking. Assumes nothing.
 #![tactic(auto)]
+
 ghost use Rattle.std.specs.Prelude.{◌≡◌, ◌<◌, get_or};
 ghost use Rattle.definitions.specs.Lists.{over};
 ghost use Rattle.definitions.specs.Words.{val, spelled, capitals, word as word_of, text as written};

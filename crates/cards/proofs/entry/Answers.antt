@@ -1,10 +1,10 @@
 -- `cards::entry` meets its contract.
 -- Assumes nothing.
 use native.Mathlib.Omega.{arith}
-use borrow.Author.Rules.{rules}
 use Rattle.definitions.specs.Words.{word}
 use Rattle.definitions.specs.Cards.{ascii}
-use Rattle.cards.proofs.Laying.{laid_next, laid_as, laid-left, laid-length, laid-most, laid-decimal, decimal-short, label-left, lettered-told, entry-parts}
+use Rattle.cards.proofs.Laying.{laid_next, laid_as, laid-left, laid-length, laid-most, laid-decimal, decimal-short, label-left}
+use Rattle.cards.proofs.Laying.{lettered-told, entry-parts}
 use Rattle.cards.proofs.entry.Goals as goal
 
 pub decimal-at-requires : goal.decimal-at-requires
@@ -12,30 +12,29 @@ decimal-at-requires c = omega (arith, c.requires.1.fits)
 
 pub slice_bounds-lettered-count : goal.slice_bounds-lettered-count
 slice_bounds-lettered-count c =
-    let start = c in
-    let place = laid-decimal start.well-formed.0.1 c.decimal-at.ensures in
+    let place = laid-decimal c.ranges.place.fits c.decimal-at.ensures in
     omega (arith, laid-most place, laid-length place)
 
 pub slice_bounds-lettered-start : goal.slice_bounds-lettered-start
-slice_bounds-lettered-start c = sub-lettered c
+slice_bounds-lettered-start c =
+    let place = laid-decimal c.ranges.place.fits c.decimal-at.ensures in
+    omega (arith, laid-most place, laid-length place)
 
 pub lettered-at-requires : goal.lettered-at-requires
 lettered-at-requires c =
-    let start = c in
-    let place = laid-decimal start.well-formed.0.1 c.decimal-at.ensures in
-    label-left 1 start.args.k start.args.kmer place start.requires.1.some start.requires.1.few start.requires.1.small
-    (omega (arith, place.long, decimal-short start.args.place (omega (arith, start.requires.0)), start.requires.1.few, start.requires.1.fits))
+    let place = laid-decimal c.ranges.place.fits c.decimal-at.ensures in
+    label-left 1 c.args.k c.args.kmer place c.requires.1.some c.requires.1.few c.requires.1.small
+    (omega (arith, place.long, decimal-short c.args.place (omega (arith, c.requires.0)), c.requires.1.few, c.requires.1.fits))
 
 pub lay-requires : goal.lay-requires
 lay-requires c =
-    let start = c in
-    let place = laid-decimal start.well-formed.0.1 c.decimal-at.ensures in
+    let place = laid-decimal c.ranges.place.fits c.decimal-at.ensures in
     let letters = c.lettered-at.ensures in
-    rw (laid-left (laid_next place letters))
-    (omega (arith, place.long, decimal-short start.args.place (omega (arith, start.requires.0)), lettered-told (ascii " ") start.args.k start.args.kmer letters, start.requires.1.few, start.requires.1.fits))
+    let digits = decimal-short c.args.place (omega (arith, c.requires.0)) in
+    let told = lettered-told (ascii " ") c.args.k c.args.kmer letters in
+    rw (laid-left (laid_next place letters)) (omega (arith, place.long, digits, told, c.requires.1.few, c.requires.1.fits))
 
 pub returns : goal.returns
 returns c =
-    let start = c in
-    let place = laid-decimal start.well-formed.0.1 c.decimal-at.ensures in
-    laid_as (entry-parts start.args.place (word start.args.k start.args.kmer)) (laid_next (laid_next place c.lettered-at.ensures) c.lay.ensures)
+    let place = laid-decimal c.ranges.place.fits c.decimal-at.ensures in
+    laid_as (entry-parts c.args.place (word c.args.k c.args.kmer)) (laid_next (laid_next place c.lettered-at.ensures) c.lay.ensures)

@@ -1,12 +1,9 @@
 -- `cards::lay` meets its contract. The loop's invariant: the first i bytes are written. The measure is how many are left.
 -- Assumes nothing.
 use Prim.Native.Nat.{◌-◌, ◌≤◌}
-use mathlib.Core.Path.{◌≡◌, refl}
-use native.Mathlib.Numerals.{add-one}
-use native.Mathlib.Omega.{arith}
-use borrow.Author.Rules.{rules}
+use mathlib.Core.Path.{◌≡◌}
 use lib.ListN.{length}
-use Rattle.laws.specs.Rooms.{over_to, length-over_to, over_to-more, over_to-all}
+use Rattle.laws.specs.Rooms.{over_to}
 use Rattle.cards.proofs.lay.Given as goal
 
 abbrev pub invariant-loop-i : goal.invariant-loop-i

@@ -1,11 +1,8 @@
 -- `cards::list` meets its contract. The loop's invariant: the lines of the first i k-mers are written. The measure is how many are left.
 -- Assumes nothing.
 use Prim.Native.Nat.{◌-◌}
-use native.Mathlib.Omega.{arith}
-use native.Mathlib.Numerals.{add-one}
-use borrow.Author.Rules.{rules}
 use lib.ListN.{length}
-use Rattle.cards.proofs.Laying.{Going, laid_none, laid-length, laid-most, going-fits, going_next, going-all}
+use Rattle.cards.proofs.Laying.{Going}
 use Rattle.cards.proofs.list.Given as goal
 
 abbrev pub invariant-loop-i : goal.invariant-loop-i

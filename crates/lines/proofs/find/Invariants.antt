@@ -3,14 +3,9 @@
 -- Assumes nothing.
 use Prim.Native.Nat.{◌+◌, ◌-◌, ◌≤◌}
 use mathlib.Core.Path.{◌≡◌}
-use native.Mathlib.Numerals.{add-one}
-use native.Mathlib.Omega.{arith}
-use borrow.Author.Rules.{rules}
-use borrow.Author.Tests.{eq-eqb, ne_eqb}
 use lib.Dec.{eqb}
-use lib.ListN.{length, get_or, drop}
+use lib.ListN.{length, drop}
 use Rattle.definitions.specs.Lists.{first_place}
-use Rattle.laws.specs.Places.{first_place-look, first_place-end}
 use Rattle.lines.proofs.find.Given as goal
 
 abbrev pub invariant-loop-i : goal.invariant-loop-i

@@ -1,27 +1,12 @@
 -- `lines::number` meets its contract.
 -- Assumes nothing.
-use Prim.Native.Nat.{◌<◌}
 use mathlib.Core.Bool.{true, ◌&&◌}
 use mathlib.Core.Path.{◌≡◌}
 use native.Mathlib.Omega.{arith}
-use borrow.Author.Tests.{ltb-true, lt-ltb, le-ltb}
-use borrow.Author.Rules.{rules}
+use borrow.Author.Tests.{lt-ltb, le-ltb}
 use lib.Dec.{ltb}
-use Rattle.laws.specs.Tests.{and_l, and_r}
 use Rattle.lines.proofs.Numerals.{spells_one, spells-two, spells-none}
-use Rattle.lines.proofs.number.Reads as reads
-use Rattle.lines.proofs.number.Lts as lts
-use Rattle.lines.proofs.digit.Reads as digit-reads
 use Rattle.lines.proofs.number.Goals as goal
-
--- the two digits are below 10
-small : (c : lts.Then4 (digit-reads.Asked, digit-reads.Learnt) reads.Pre reads.Post) → (c.before.before.before.digit2.result < 10) × (c.before.digit3.result < 10)
-small c =
-    let t = c.before.before.before.digit2.result in
-    let o = c.before.digit3.result in
-    let ones = and_r (ltb 0 t && ltb t 10) (ltb o 10) c.if4.true in
-    let tens = and_r (ltb 0 t) (ltb t 10) (and_l (ltb 0 t && ltb t 10) (ltb o 10) c.if4.true) in
-    (ltb-true t 10 tens, ltb-true o 10 ones)
 
 pub returns-then-only-lt10 : goal.returns-then-only-lt10
 returns-then-only-lt10 c =
@@ -39,12 +24,6 @@ returns-then-tens-ones c =
     let o = c.digit-ones.result in
     let tested : ((ltb 0 t && ltb t 10) && ltb o 10) ≡ true = c.if-tens-ones.true in
     rw (spells-two c.args.text.now c.if-n-eq2.true c.digit-tens.ensures c.digit-ones.ensures, tested)
-
-pub overflow_mul-result : goal.overflow_mul-result
-overflow_mul-result c = omega (arith, small c)
-
-pub overflow_add-result : goal.overflow_add-result
-overflow_add-result c = omega (arith, small c)
 
 pub returns-then-n-eq2 : goal.returns-then-n-eq2
 returns-then-n-eq2 c = rw (spells-two c.args.text.now c.if-n-eq2.true c.digit-tens.ensures c.digit-ones.ensures, c.if-tens-ones.false)

@@ -2,10 +2,9 @@
 -- Assumes nothing.
 use mathlib.Core.Path.{◌≡◌}
 use native.Mathlib.Omega.{arith}
-use borrow.Author.Rules.{rules}
 use Rattle.words.proofs.capital.Goals as goal
 
 pub returns-in_default : goal.returns-in_default
 returns-in_default c =
-    let last : c.args.letter ≡ 3 = omega (arith, c.in_default.rest.1, c.in_default.rest.0.1, c.in_default.rest.0.0.1) in
+    let last : c.args.letter ≡ 3 = omega arith in
     rw last

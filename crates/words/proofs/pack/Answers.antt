@@ -3,7 +3,6 @@
 use Prim.Native.Nat.{ℕ}
 use mathlib.Core.Bool.{true, false, not}
 use mathlib.Core.Path.{◌≡◌, sym, ap, ◌∙◌}
-use borrow.Author.Rules.{rules}
 use borrow.Author.Tests.{lt-ltb, le-ltb}
 use lib.ListN.{length}
 use Rattle.definitions.specs.Lists.{all}
@@ -19,20 +18,22 @@ use Rattle.words.proofs.pack.Goals.{Else-bad-n}
 none : (c : goal.Else-bad-n) → refusal (pack_grounds c.args.text.now) ≡ 0
 none c =
     let text = c.args.text.now in
-    let good : not (all is_letter_byte text) ≡ false = sym (first_bad_place-all text) ∙ le-ltb (first_bad_place text) (length text) (rw c.first_bad-bad.ensures at c.if-bad-n.false) in
+    let good : not (all is_letter_byte text) ≡ false =
+        sym (first_bad_place-all text) ∙ le-ltb (first_bad_place text) (length text) (rw c.first_bad-bad.ensures at c.if-bad-n.false) in
     rw (c.if-n.false, good)
 
 pub returns-then-n : goal.returns-then-n
 unfolding pack_outcome pack_answer
-returns c =
+returns-then-n c =
     let bad : (bad_length (length c.args.text.now)).met ≡ true = c.if-n.true in
     rw bad
 
 pub returns-then-bad-n : goal.returns-then-bad-n
 unfolding pack_outcome pack_answer
-returns-2 c =
+returns-then-bad-n c =
     let text = c.args.text.now in
-    let bad : not (all is_letter_byte text) ≡ true = sym (first_bad_place-all text) ∙ lt-ltb (first_bad_place text) (length text) (rw c.first_bad-bad.ensures at c.if-bad-n.true) in
+    let bad : not (all is_letter_byte text) ≡ true =
+        sym (first_bad_place-all text) ∙ lt-ltb (first_bad_place text) (length text) (rw c.first_bad-bad.ensures at c.if-bad-n.true) in
     rw (c.if-n.false, bad) (ap (λ (p : ℕ). record { refusal = 6; place = p; word = 0 }) c.first_bad-bad.ensures)
 
 pub read-requires : goal.read-requires
@@ -40,4 +41,4 @@ read-requires c = pack-accepted c.args.text.now (none (goal.at.read-requires c).
 
 pub returns : goal.returns
 unfolding pack_outcome pack_answer
-returns-3 c = rw (none (goal.at.returns c).Else-bad-n, c.read.ensures)
+returns c = rw (none (goal.at.returns c).Else-bad-n, c.read.ensures)

@@ -1,13 +1,12 @@
 -- `words::read` meets its contract. The loop's invariant: the word is the number of the letters passed. The measure is what is left of the
 -- length.
 -- Assumes nothing.
-use Prim.Native.Nat.{ℕ, suc, ◌+◌, ◌-◌, ◌*◌, ◌^◌, ◌≤◌, ◌<◌}
+use Prim.Native.Nat.{ℕ, suc, ◌+◌, ◌*◌, ◌^◌, ◌<◌}
 use mathlib.Core.List.{List}
 use mathlib.Core.Path.{◌≡◌, sym, ◌∙◌}
 use native.Mathlib.Nat.{pow-le-pow_right, lt_of_lt_of_le}
 use native.Mathlib.Numerals.{add-one}
 use native.Mathlib.Omega.{arith}
-use borrow.Author.Rules.{rules}
 use lib.ListN.{length, get_or, take, length-map}
 use lib.Seq.{length-take-le, take-length}
 use Rattle.definitions.specs.Words.{val, letter_of, spelled}
@@ -39,15 +38,15 @@ overflow_mul-word c =
 
 pub overflow_add-word : goal.overflow_add-word
 overflow_add-word c =
+    let text = c.args.text.now in
     let at = c.loop-i in
-    let start = c in
-    omega (arith, at.invariant.1, small start.args.text.now start.requires at.i c.loop-i-test.true, read-lt start.args.text.now start.requires at.i c.loop-i-test.true, c.letter.ensures)
+    let h = c.loop-i-test.true in
+    omega (arith, at.invariant.1, small text c.requires at.i h, read-lt text c.requires at.i h, c.letter.ensures)
 
 pub loop-i-preserved : goal.loop-i-preserved
 loop-i-preserved c =
     let at = c.loop-i in
-    let start = c in
-    (omega arith, rw (c.letter.ensures, at.invariant.1, add-one) (one_more start.args.text.now start.requires at.i c.loop-i-test.true))
+    (omega arith, rw (c.letter.ensures, at.invariant.1, add-one) (one_more c.args.text.now c.requires at.i c.loop-i-test.true))
 
 pub returns : goal.returns
 returns c =

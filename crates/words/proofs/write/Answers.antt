@@ -6,7 +6,6 @@ use mathlib.Core.List.{List}
 use mathlib.Core.Path.{◌≡◌, sym, ap, ◌∙◌}
 use native.Mathlib.Numerals.{add-one}
 use native.Mathlib.Omega.{arith}
-use borrow.Author.Rules.{rules}
 use lib.ListN.{length, get_or}
 use Rattle.definitions.specs.Words.{capitals, word, text}
 use Rattle.laws.specs.Filters.{at_map}
@@ -30,28 +29,26 @@ overflow_sub-n-in-loop-i c = omega arith
 pub bounds-room-i : goal.bounds-room-i
 bounds-room-i c =
     let at = c.loop-i in
-    let start = c in
-    omega (arith, start.requires.fits, kept start.args.n start.args.word start.args.room.now at.room start.requires.fits at.invariant.0 at.invariant.1)
+    omega (arith, c.requires.fits, kept c.args.n c.args.word c.args.room.now at.room c.requires.fits at.invariant.0 at.invariant.1)
 
 pub loop-i-preserved : goal.loop-i-preserved
 loop-i-preserved c =
     let at = c.loop-i in
-    let start = c in
-    let n = start.args.n in
-    let x = start.args.word in
-    let byte : c.capital.result ≡ get_or (text (word n x)) at.i 0 = c.capital.ensures ∙ sym (letter_at n x at.i (n - 1 - at.i) (omega arith)) in
-    (omega arith, rw add-one (over_to-more (text (word n x)) start.args.room.now 0 at.invariant.1 byte (rw length-text (omega arith)) (omega (arith, start.requires.fits))))
+    let n = c.args.n in
+    let x = c.args.word in
+    let t = text (word n x) in
+    let byte : c.capital.result ≡ get_or t at.i 0 = c.capital.ensures ∙ sym (letter_at n x at.i (n - 1 - at.i) (omega arith)) in
+    let fits = c.requires.fits in
+    (omega arith, rw add-one (over_to-more t c.args.room.now 0 at.invariant.1 byte (rw length-text (omega arith)) (omega (arith, fits))))
 
 pub shape_of-room : goal.shape_of-room
 shape_of-room c =
     let at = c.loop-i in
-    let start = c in
-    kept start.args.n start.args.word start.args.room.now at.room start.requires.fits at.invariant.0 at.invariant.1
+    kept c.args.n c.args.word c.args.room.now at.room c.requires.fits at.invariant.0 at.invariant.1
 
 pub returns : goal.returns
 returns c =
     let at = c.loop-i in
-    let start = c in
-    let n = start.args.n in
-    let end : at.i ≡ length (text (word n start.args.word)) = rw length-text (omega arith) in
-    over_to-all (text (word n start.args.word)) start.args.room.now at.invariant.1 end
+    let n = c.args.n in
+    let end : at.i ≡ length (text (word n c.args.word)) = rw length-text (omega arith) in
+    over_to-all (text (word n c.args.word)) c.args.room.now at.invariant.1 end
