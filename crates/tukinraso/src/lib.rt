@@ -1,5 +1,6 @@
 // The foreign forms, on plain numbers and slices of bytes: what the crate `tukinraso_c` exports. Assumes nothing.
 #![tactic(auto)]
+
 ghost use Rattle.std.specs.Prelude.{◌≡◌, ◌<◌};
 ghost use Rattle.definitions.specs.Outcomes as outcomes;
 ghost use Rattle.tukinraso.specs.Answers.{foreign_scanned};

@@ -2,7 +2,6 @@
 -- Assumes nothing.
 use mathlib.Core.Path.{◌≡◌, ap}
 use native.Mathlib.Omega.{arith}
-use borrow.Author.Rules.{rules}
 use Rattle.definitions.specs.Outcomes.{Counted, size_outcome, foreign_size_outcome, coded}
 use Rattle.laws.specs.Accepted.{size-refusal-most}
 use Rattle.sizes.specs.Answers.{counted}
