@@ -34,7 +34,8 @@ none c = sym c.word_refusal-refusal.ensures ∙ c.if-refusal-ne0.false
 
 pub returns-then-refusal-ne0 : goal.returns-then-refusal-ne0
 unfolding prepare_outcome
-returns-then-refusal-ne0 c = rw (← c.word_refusal-refusal.ensures) (refused c.word_refusal-refusal.result c.if-refusal-ne0.true _ _)
+returns-then-refusal-ne0 c =
+    rw (← c.word_refusal-refusal.ensures) (refused c.word_refusal-refusal.result c.if-refusal-ne0.true _ _)
 
 pub special_alphabets-unlinked-requires : goal.special_alphabets-unlinked-requires
 special_alphabets-unlinked-requires c =

@@ -33,7 +33,8 @@ loop-i-smaller c = omega arith
 pub loop-i-preserved : goal.loop-i-preserved
 loop-i-preserved c =
     let at = c.loop-i in
-    (omega arith, rw add-one (written-up at.invariant.1 (rw (at.invariant.1.long, c.requires.long_ways) (inside (goal.at.loop-i-preserved c).In-loop-i)) refl refl (omega arith)))
+    let room = inside (goal.at.loop-i-preserved c).In-loop-i in
+    (omega arith, rw add-one (written-up at.invariant.1 (rw (at.invariant.1.long, c.requires.long_ways) room) refl refl (omega arith)))
 
 pub returns : goal.returns
 returns c =

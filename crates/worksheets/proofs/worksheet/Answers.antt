@@ -50,14 +50,16 @@ stated c =
 
 pub returns-then-prepared-ne0 : goal.returns-then-prepared-ne0
 unfolding worksheet_outcome
-returns-then-prepared-ne0 c = rw (← given _ _ _ _ c.prepare-prepared.ensures) (refused c.prepare-prepared.result.refusal c.if-prepared-ne0.true _ _ _ _)
+returns-then-prepared-ne0 c =
+    rw (← given _ _ _ _ c.prepare-prepared.ensures) (refused c.prepare-prepared.result.refusal c.if-prepared-ne0.true _ _ _ _)
 
 pub sheet_of-sheet-requires : goal.sheet_of-sheet-requires
 sheet_of-sheet-requires c =
     let args = c.args in
-    let order = (word-accepted args.m args.k args.m args.key args.word (none (goal.at.sheet_of-sheet-requires c).Else-prepared-ne0)).order in
+    let here = (goal.at.sheet_of-sheet-requires c).Else-prepared-ne0 in
+    let order = (word-accepted args.m args.k args.m args.key args.word (none here)).order in
     record {
-      known = (key_ranking (word_of args.m args.key), word_of args.m args.word, stated (goal.at.sheet_of-sheet-requires c).Else-prepared-ne0);
+      known = (key_ranking (word_of args.m args.key), word_of args.m args.word, stated here);
       in_range = (order.m_fits, order.k_few);
     }
 
@@ -65,6 +67,7 @@ pub returns : goal.returns
 unfolding worksheet_outcome worksheet_answer
 returns c =
     let args = c.args in
-    let sheet = c.sheet_of-sheet.ensures (key_ranking (word_of args.m args.key)) (word_of args.m args.word) (stated (goal.at.returns c).Else-prepared-ne0) in
-    rw (none (goal.at.returns c).Else-prepared-ne0, keyed-ranked (word_of args.m args.key))
+    let here = (goal.at.returns c).Else-prepared-ne0 in
+    let sheet = c.sheet_of-sheet.ensures (key_ranking (word_of args.m args.key)) (word_of args.m args.word) (stated here) in
+    rw (none here, keyed-ranked (word_of args.m args.key))
     (ap₂ (λ (a p : List ℕ). record { refusal = 0; antemers = a; postmers = p }) sheet.antemers-are.is sheet.postmers-are.is)
