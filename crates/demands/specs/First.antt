@@ -35,7 +35,7 @@ use Rattle.shelves.specs.Answers.{paged}
 use Rattle.listers.specs.Answers as listers
 use Rattle.lines.specs.Answers.{lined}
 use Rattle.cards.specs.Answers.{printed}
-use Rattle.demands.specs.Promises.{Lent, Packs, Unpacks, Finds, Examines, Scans, ScansBytes, Prepares, Works, Sizes, Counts, Pages, Lists, ForeignScans, ForeignSizes, ReadsLine, Prints}
+use Rattle.demands.specs.Promises.{Lent, LentRoom, Packs, Unpacks, Finds, Examines, Scans, ScansBytes, Prepares, Works, Sizes, Counts, Pages, Lists, ForeignScans, ForeignSizes, ReadsLine, Prints}
 
 -- ---- the lists
 
@@ -152,7 +152,7 @@ pack-refuses κs text r h =
     refuses-lowest (λ (o : outcomes.Packed). o.refusal) (λ n. outcomes.pack_answer n text.now) refl (λ n. refl) (λ n. refl) (omega arith) refl h
 
 -- unpacking
-pub unpack-refuses : (κs : Lfts 1) (word n : ℕ) (room : Lent) (r : _) (last : List ℕ) → Unpacks κs word n room r last
+pub unpack-refuses : (κs : Lfts 1) (word n : ℕ) (room : LentRoom) (r : _) (last : List ℕ) → Unpacks κs word n room r last
     → Refuses (unpack_tests word n room.now) (λ i. record { refusal = i; written = 0; room = room.now }) r.refusal (unpacked r last)
     × Lowest (unpack_tests word n room.now) r.refusal
 unfolding outcomes.unpack_outcome outcomes.unpack_answer
@@ -192,7 +192,7 @@ counter-refuses k m key word r h =
     refuses-lowest (λ (o : outcomes.Counted). o.refusal) (λ n. outcomes.counter_answer n (keyed (word_of m key)) (k - m) (word_of m word)) refl (λ n. refl) (λ n. refl) (omega arith) refl h
 
 -- a page
-pub page-refuses : (κs : Lfts 1) (k m key word start : ℕ) (room : Lent) (r : _) (last : List ℕ) → Pages κs k m key word start room r last
+pub page-refuses : (κs : Lfts 1) (k m key word start : ℕ) (room : LentRoom) (r : _) (last : List ℕ) → Pages κs k m key word start room r last
     → Refuses (page_tests k m key word start) (λ n. record { refusal = n; written = 0; room = room.now }) r.refusal (paged r last)
     × Lowest (page_tests k m key word start) r.refusal
 unfolding outcomes.page_outcome outcomes.page_answer
@@ -200,7 +200,7 @@ page-refuses κs k m key word start room r last h =
     refuses-lowest (λ (o : outcomes.Paged). o.refusal) (λ n. outcomes.page_answer n (keyed (word_of m key)) k (word_of m word) start room.now) refl (λ n. refl) (λ n. refl) (omega arith) refl h
 
 -- a whole shelf by pages
-pub list-refuses : (κs : Lfts 1) (k m key word each : ℕ) (room : Lent) (r : _) (last : List ℕ) → Lists κs k m key word each room r last
+pub list-refuses : (κs : Lfts 1) (k m key word each : ℕ) (room : LentRoom) (r : _) (last : List ℕ) → Lists κs k m key word each room r last
     → Refuses (list_tests k m key word each room.now) (λ n. record { refusal = n; written = 0; room = room.now }) r.refusal (listers.listed r last)
     × Lowest (list_tests k m key word each room.now) r.refusal
 unfolding listers.list_outcome listers.list_answer
@@ -208,7 +208,7 @@ list-refuses κs k m key word each room r last h =
     refuses-lowest (λ (o : listers.Listed). o.refusal) (λ n. listers.list_answer n (keyed (word_of m key)) k (word_of m word) room.now) refl (λ n. refl) (λ n. refl) (omega arith) refl h
 
 -- the scan
-pub scan-refuses : (κs : Lfts 2) (k m key : ℕ) (seq room : Lent) (r : _) (last : List ℕ) → Scans κs k m key seq room r last
+pub scan-refuses : (κs : Lfts 2) (k m key : ℕ) (seq : Lent) (room : LentRoom) (r : _) (last : List ℕ) → Scans κs k m key seq room r last
     → Refuses (scan_tests k m key seq.now 1 room.now) (λ n. record { refusal = n; place = place_beside n seq.now; windows = 0; room = room.now }) r.refusal (scanned r last)
     × Lowest (scan_tests k m key seq.now 1 room.now) r.refusal
 unfolding outcomes.scan_outcome outcomes.scan_answer
@@ -216,7 +216,7 @@ scan-refuses κs k m key seq room r last h =
     refuses-lowest (λ (o : outcomes.Scanned). o.refusal) (λ n. outcomes.scan_answer n (λ ps. ps) (keyed (word_of m key)) k m seq.now room.now) refl (λ n. refl) (λ n. refl) (omega arith) refl h
 
 -- the scan into bytes
-pub scan-bytes-refuses : (κs : Lfts 2) (k m key : ℕ) (seq room : Lent) (r : _) (last : List ℕ) → ScansBytes κs k m key seq room r last
+pub scan-bytes-refuses : (κs : Lfts 2) (k m key : ℕ) (seq : Lent) (room : LentRoom) (r : _) (last : List ℕ) → ScansBytes κs k m key seq room r last
     → Refuses (scan_tests k m key seq.now 4 room.now) (λ n. record { refusal = n; place = place_beside n seq.now; windows = 0; room = room.now }) r.refusal (scanned r last)
     × Lowest (scan_tests k m key seq.now 4 room.now) r.refusal
 unfolding outcomes.scan_bytes_outcome outcomes.scan_answer
@@ -294,7 +294,7 @@ coded-scan f k m s room zero = (λ e. refl, λ h. absurd (omega arith))
 coded-scan f k m s room (suc n) = (λ e. absurd (omega arith), λ h. (refl, refl))
 
 -- the foreign scan: the number of windows or, refused, the number of that with the place of a bad letter, and the room as it was
-pub foreign-scan-refuses : (κs : Lfts 2) (k m key : ℕ) (seq room : Lent) (r : _) (last : List ℕ) → ForeignScans κs k m key seq room r last
+pub foreign-scan-refuses : (κs : Lfts 2) (k m key : ℕ) (seq : Lent) (room : LentRoom) (r : _) (last : List ℕ) → ForeignScans κs k m key seq room r last
     → let n = refusal (scan_tests k m key seq.now 4 room.now) in
     (n ≡ 0 → r ≡ length (windows k seq.now)) × (0 < n → (r ≡ refused_number n (place_beside n seq.now)) × (last ≡ room.now))
     × Lowest (scan_tests k m key seq.now 4 room.now) n
@@ -321,7 +321,7 @@ foreign-size-told k m key word r h =
     )
 
 -- and so the foreign scan; and a place is below 65,536, so that the number of refusal and the place can be read off
-pub foreign-scan-told : (κs : Lfts 2) (k m key : ℕ) (seq room : Lent) (r : _) (last : List ℕ) → ForeignScans κs k m key seq room r last
+pub foreign-scan-told : (κs : Lfts 2) (k m key : ℕ) (seq : Lent) (room : LentRoom) (r : _) (last : List ℕ) → ForeignScans κs k m key seq room r last
     → let n = refusal (scan_tests k m key seq.now 4 room.now) in
     ((r < 2 ^ 63) ↔ (n ≡ 0)) × (place_beside n seq.now < 65536)
 foreign-scan-told κs k m key seq room r last h =
@@ -356,7 +356,7 @@ list-rest f k w zero room = rest-kept (map val (shelves.shelf f k w)) room (shel
 list-rest f k w (suc n) room = refl
 
 -- unpacking, refused or not, changes no more of the room than it says that it wrote (of the scans ScanIs in Second says it and, refused, scan-refuses)
-pub unpack-spare : (κs : Lfts 1) (word n : ℕ) (room : Lent) (r : _) (last : List ℕ) → Unpacks κs word n room r last
+pub unpack-spare : (κs : Lfts 1) (word n : ℕ) (room : LentRoom) (r : _) (last : List ℕ) → Unpacks κs word n room r last
     → drop r.written last ≡ drop r.written room.now
 unfolding outcomes.unpack_outcome
 unpack-spare κs word n room r last h =
@@ -364,7 +364,7 @@ unpack-spare κs word n room r last h =
     (unpack-rest n word (refusal (unpack_tests word n room.now)) room.now)
 
 -- a page
-pub page-spare : (κs : Lfts 1) (k m key word start : ℕ) (room : Lent) (r : _) (last : List ℕ) → Pages κs k m key word start room r last
+pub page-spare : (κs : Lfts 1) (k m key word start : ℕ) (room : LentRoom) (r : _) (last : List ℕ) → Pages κs k m key word start room r last
     → drop r.written last ≡ drop r.written room.now
 unfolding outcomes.page_outcome
 page-spare κs k m key word start room r last h =
@@ -372,7 +372,7 @@ page-spare κs k m key word start room r last h =
     (page-rest (keyed (word_of m key)) k (word_of m word) start (refusal (page_tests k m key word start)) room.now)
 
 -- a whole shelf by pages
-pub list-spare : (κs : Lfts 1) (k m key word each : ℕ) (room : Lent) (r : _) (last : List ℕ) → Lists κs k m key word each room r last
+pub list-spare : (κs : Lfts 1) (k m key word each : ℕ) (room : LentRoom) (r : _) (last : List ℕ) → Lists κs k m key word each room r last
     → drop r.written last ≡ drop r.written room.now
 unfolding listers.list_outcome
 list-spare κs k m key word each room r last h =

@@ -1,10 +1,10 @@
--- What each operation may answer: its contract as it stands in the source, at plain arguments. `Lent` is a slice that is lent, and `now` of it
+-- What each operation may answer: its contract as it stands in the source, at plain arguments. `Lent` is a slice that is lent, `LentRoom` a room, and `now` of either
 -- is what it holds; `last` is what a lent room holds when the operation has ended. κs is how long slices are lent, which no contract asks.
 -- Assumes nothing.
 use Rattle.std.specs.Prelude.{ℕ, List}
 use borrow.Fn.Kinds.{ResultKind, res_t}
 use contract.Lifetimes.{Lfts}
-use Rattle.std.specs.Borrow.{Bor}
+use Rattle.std.specs.Borrow.{Bor, MutBor}
 use Rattle.laws.specs.Promises.{Allows}
 use Rattle.words.proofs.pack.Kinds as pack-kinds
 use Rattle.words.proofs.pack.Reads as pack-reads
@@ -43,6 +43,10 @@ use Rattle.cards.proofs.card.Reads as card-reads
 abbrev pub Lent : Type 0
 Lent = Bor (List ℕ)
 
+-- a room that is lent: where it lies, and what it holds
+abbrev pub LentRoom : Type 0
+LentRoom = MutBor (List ℕ)
+
 -- what an operation answers
 abbrev pub Answer : {n : ℕ} → ResultKind n → Lfts n → Type 0
 Answer result κs = (res_t result κs).Denot
@@ -52,7 +56,7 @@ abbrev pub Packs : (κs : Lfts 1) → Lent → Answer pack-kinds.r κs → Type 
 Packs κs text r = Allows pack-kinds.ps pack-kinds.r pack-reads.Post κs (text, tt) r (tt, tt)
 
 -- words::unpack(word, length, room)
-abbrev pub Unpacks : (κs : Lfts 1) → ℕ → ℕ → Lent → Answer unpack-kinds.r κs → List ℕ → Type 0
+abbrev pub Unpacks : (κs : Lfts 1) → ℕ → ℕ → LentRoom → Answer unpack-kinds.r κs → List ℕ → Type 0
 Unpacks κs word length room r last = Allows unpack-kinds.ps unpack-kinds.r unpack-reads.Post κs (word, (length, (room, tt))) r (tt, (tt, (last, tt)))
 
 -- vigemins::vigemin(k, m, key, kmer)
@@ -64,11 +68,11 @@ abbrev pub Examines : (κs : Lfts 1) → ℕ → ℕ → ℕ → Lent → ℕ �
 Examines κs k m key seq takes r = Allows examine-kinds.ps examine-kinds.r examine-reads.Post κs (k, (m, (key, (seq, (takes, tt))))) r (tt, (tt, (tt, (tt, (tt, tt)))))
 
 -- scans::scan(k, m, key, seq, room)
-abbrev pub Scans : (κs : Lfts 2) → ℕ → ℕ → ℕ → Lent → Lent → Answer scan-kinds.r κs → List ℕ → Type 0
+abbrev pub Scans : (κs : Lfts 2) → ℕ → ℕ → ℕ → Lent → LentRoom → Answer scan-kinds.r κs → List ℕ → Type 0
 Scans κs k m key seq room r last = Allows scan-kinds.ps scan-kinds.r scan-reads.Post κs (k, (m, (key, (seq, (room, tt))))) r (tt, (tt, (tt, (tt, (last, tt)))))
 
 -- scans::scan_bytes(k, m, key, seq, room)
-abbrev pub ScansBytes : (κs : Lfts 2) → ℕ → ℕ → ℕ → Lent → Lent → Answer scan-bytes-kinds.r κs → List ℕ → Type 0
+abbrev pub ScansBytes : (κs : Lfts 2) → ℕ → ℕ → ℕ → Lent → LentRoom → Answer scan-bytes-kinds.r κs → List ℕ → Type 0
 ScansBytes κs k m key seq room r last = Allows scan-bytes-kinds.ps scan-bytes-kinds.r scan-bytes-reads.Post κs (k, (m, (key, (seq, (room, tt))))) r (tt, (tt, (tt, (tt, (last, tt)))))
 
 -- states::prepare(k, m, key, word)
@@ -88,15 +92,15 @@ abbrev pub Counts : ℕ → ℕ → ℕ → ℕ → Answer antemers-kinds.r tt �
 Counts k m key word r = Allows antemers-kinds.ps antemers-kinds.r antemers-reads.Post tt (k, (m, (key, (word, tt)))) r (tt, (tt, (tt, (tt, tt))))
 
 -- shelves::page(k, m, key, word, start, room)
-abbrev pub Pages : (κs : Lfts 1) → ℕ → ℕ → ℕ → ℕ → ℕ → Lent → Answer page-kinds.r κs → List ℕ → Type 0
+abbrev pub Pages : (κs : Lfts 1) → ℕ → ℕ → ℕ → ℕ → ℕ → LentRoom → Answer page-kinds.r κs → List ℕ → Type 0
 Pages κs k m key word start room r last = Allows page-kinds.ps page-kinds.r page-reads.Post κs (k, (m, (key, (word, (start, (room, tt)))))) r (tt, (tt, (tt, (tt, (tt, (last, tt))))))
 
 -- listers::list(k, m, key, word, each, room)
-abbrev pub Lists : (κs : Lfts 1) → ℕ → ℕ → ℕ → ℕ → ℕ → Lent → Answer list-kinds.r κs → List ℕ → Type 0
+abbrev pub Lists : (κs : Lfts 1) → ℕ → ℕ → ℕ → ℕ → ℕ → LentRoom → Answer list-kinds.r κs → List ℕ → Type 0
 Lists κs k m key word each room r last = Allows list-kinds.ps list-kinds.r list-reads.Post κs (k, (m, (key, (word, (each, (room, tt)))))) r (tt, (tt, (tt, (tt, (tt, (last, tt))))))
 
 -- tukinraso::tukinraso_scan(k, m, key, seq, room)
-abbrev pub ForeignScans : (κs : Lfts 2) → ℕ → ℕ → ℕ → Lent → Lent → Answer tukinraso-scan-kinds.r κs → List ℕ → Type 0
+abbrev pub ForeignScans : (κs : Lfts 2) → ℕ → ℕ → ℕ → Lent → LentRoom → Answer tukinraso-scan-kinds.r κs → List ℕ → Type 0
 ForeignScans κs k m key seq room r last = Allows tukinraso-scan-kinds.ps tukinraso-scan-kinds.r tukinraso-scan-reads.Post κs (k, (m, (key, (seq, (room, tt))))) r (tt, (tt, (tt, (tt, (last, tt)))))
 
 -- tukinraso::tukinraso_size(k, m, key, word)

@@ -9,7 +9,7 @@ use contract.Lifetimes.{Lfts}
 use Rattle.std.proofs.lemmas.List.{length-map}
 use Rattle.definitions.specs.Lists.{tabulate, over, total}
 use Rattle.definitions.specs.Words.{Word, Mer, val, word as word_of, letter_of, same, spelled, text}
-use Rattle.definitions.specs.Vigemins.{keyed, windows, vigemin, vigemin_at, scan}
+use Rattle.definitions.specs.Vigemins.{keyed, vigemin, vigemin_at, scan}
 use Rattle.definitions.specs.Shelves.{size, antemers, postmers, antemer, postmer, begins, column}
 use Rattle.definitions.specs.Refusals.{refusal}
 use Rattle.definitions.specs.Outcomes.{Packed, Unpacked, Found, Counted, Worked, Scanned, ForeignScanned, size_answer, size_outcome, worksheet_answer, worksheet_outcome, counter_answer, counter_outcome, scan_answer, scan_outcome, scan_bytes_outcome, foreign_scan_outcome, scan_grounds, coded, as_bytes}
@@ -20,7 +20,7 @@ use Rattle.laws.specs.Scans.{length-scan, scan-inside, scan-least, scan-leftmost
 use Rattle.laws.specs.Split.{column-at, column-above}
 use Rattle.laws.specs.Accepted.{PackAccepted, UnpackAccepted, ShelfAccepted, VigeminAccepted, CounterAccepted, ScanAccepted, accepted-word, accepted-counter, accepted-scan, size-refusal, size-count}
 use Rattle.laws.proofs.RoundTrips.{pack-outcome, unpack-outcome, vigemin-outcome, counter-row, worksheet-size}
-use Rattle.demands.specs.Promises.{Lent, Packs, Unpacks, Finds, Scans, ScansBytes, Works, Sizes, Counts, ForeignScans, ForeignSizes}
+use Rattle.demands.specs.Promises.{Lent, LentRoom, Packs, Unpacks, Finds, Scans, ScansBytes, Works, Sizes, Counts, ForeignScans, ForeignSizes}
 use Rattle.demands.specs.Meanings.{mer_at, keyed_number, VigeminAt, Vigemin, Antemer, Postmer, Number, vigemin-means, means-vigemin, antemer-means, postmer-means, number-filter}
 use Rattle.demands.specs.First.{foreign-size-refuses}
 
@@ -210,7 +210,7 @@ scan-answered {k} {m} {key} {each} {seq} {room} a entries h =
       },
     )
 
-module _ (κs : Lfts 2) {k m key : ℕ} (seq room : Lent) where
+module _ (κs : Lfts 2) {k m key : ℕ} (seq : Lent) (room : LentRoom) where
   -- whatever the scan may answer, and leave in the room
   pub scan-right : ScanAccepted k m key seq.now 1 room.now → (r : _) (last : List ℕ) → Scans κs k m key seq room r last
       → (r.refusal ≡ 0) × ScanIs (λ ps. ps) (word_of m key) k m seq.now room.now r.windows last
@@ -243,7 +243,7 @@ pack-right κs t a r h =
     (ap (λ (o : Packed). o.refusal) e, ap (λ (o : Packed). o.word) e)
 
 -- whatever unpacking may answer, and leave in the room: as many letters as were asked for, and at the front of the room the word in capitals
-pub unpack-right : (κs : Lfts 1) (word n : ℕ) (room : Lent) → UnpackAccepted word n room.now → (r : _) (last : List ℕ) → Unpacks κs word n room r last
+pub unpack-right : (κs : Lfts 1) (word n : ℕ) (room : LentRoom) → UnpackAccepted word n room.now → (r : _) (last : List ℕ) → Unpacks κs word n room r last
     → (r.refusal ≡ 0) × (r.written ≡ n) × (last ≡ over (text (word_of n word)) room.now)
 unpack-right κs word n room a r last h =
     let e = h ∙ unpack-outcome a in

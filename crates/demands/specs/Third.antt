@@ -23,7 +23,7 @@ use Rattle.laws.specs.Catalogue.{shelf-holds, shelf-increasing}
 use Rattle.laws.specs.Accepted.{ShelfAccepted, VigeminAccepted}
 use Rattle.laws.specs.Listings.{Accepted, handed, room_of, page-outcome, page-written, page-handed, handed_over, stopped_at, RoomForOne, pages-served, pages-shelf, pages-reach, some-room}
 use Rattle.listers.specs.Answers.{Listed, list_answer, list_outcome}
-use Rattle.demands.specs.Promises.{Lent, Answer, Finds, Sizes, Pages, Lists}
+use Rattle.demands.specs.Promises.{LentRoom, Answer, Finds, Sizes, Pages, Lists}
 use Rattle.demands.specs.Meanings.{VigeminAt, Vigemin, vigemin-means, means-vigemin, vigemin-one}
 use Rattle.demands.specs.First.{list-refuses}
 use Rattle.demands.specs.Second.{fits, size-defined, vigemin-right}
@@ -58,7 +58,7 @@ shelf-means k key w fits =
 
 -- a call of `page`: the room that is lent, the answer, and what the room holds at last
 pub record Call (κs : Lfts 1) : Type 0 where
-  pub room : Lent
+  pub room : LentRoom
   pub answer : Answer page-kinds.r κs
   pub last : List ℕ
 
@@ -168,7 +168,7 @@ module _ {k m key word : ℕ} (a : ShelfAccepted k m key word) where
               (v.position, subst (λ (n : ℕ). VigeminAt (word_of m key) (word_of m n) (word_of k kmer) v.position) (sym q) found.2))
 
   -- a whole shelf by pages: unrefused, it holds the shelf at the front of its room, and so many numbers as the size says
-  pub list_right : (κs : Lfts 1) (each : ℕ) (room : Lent) (r : _) (last : List ℕ) → Lists κs k m key word each room r last → r.refusal ≡ 0
+  pub list_right : (κs : Lfts 1) (each : ℕ) (room : LentRoom) (r : _) (last : List ℕ) → Lists κs k m key word each room r last → r.refusal ≡ 0
       → (s : _) → Sizes k m key word s
       → HoldsShelf k (word_of m key) (word_of m word) (take r.written last) × (r.written ≡ s.count) × (last ≡ over (take r.written last) room.now)
   unfolding list_outcome list_answer
@@ -185,7 +185,7 @@ module _ {k m key word : ℕ} (a : ShelfAccepted k m key word) where
 
   -- one page, from a place of the shelf or from its end: it is served, writes the smaller of its room and of what is left, and these are the k-mers
   -- of the places from there on
-  pub page-right : (κs : Lfts 1) (start : ℕ) (room : Lent) (r : _) (last : List ℕ) → Pages κs k m key word start room r last
+  pub page-right : (κs : Lfts 1) (start : ℕ) (room : LentRoom) (r : _) (last : List ℕ) → Pages κs k m key word start room r last
       → (s : _) → Sizes k m key word s → start ≤ s.count
       → (r.refusal ≡ 0) × (r.written ≡ min (length room.now) (s.count - start))
       × (take r.written last ≡ map val (page (keyed (word_of m key)) k (word_of m word) start (length room.now)))
@@ -209,25 +209,25 @@ pub record ThroughShelf (κs : Lfts 1) (k m key word : ℕ) (calls : List (Call 
 
 module _ (κs : Lfts 1) (k m key word : ℕ) where
   -- calls of `page` with some rooms, in a row from a start, each answered as its contract has it
-  abbrev pub calls_of : ℕ → List Lent → List (Call κs)
+  abbrev pub calls_of : ℕ → List LentRoom → List (Call κs)
   calls_of start [] = []
   calls_of start (room ∷ lent) =
       let o = page_outcome k m key word start room.now in
       record { room = room; answer = record { refusal = o.refusal; written = o.written }; last = o.room } ∷ calls_of (start + o.written) lent
 
   -- they stand in a row
-  in-row : (start : ℕ) (lent : List Lent) → RoomForOne (map (λ x. x.now) lent) → InRow κs k m key word start (calls_of start lent)
+  in-row : (start : ℕ) (lent : List LentRoom) → RoomForOne (map (λ x. x.now) lent) → InRow κs k m key word start (calls_of start lent)
   in-row start [] h = tt
   in-row start (room ∷ lent) h = (refl, h.0, in-row (start + (page_outcome k m key word start room.now).written) lent h.1)
 
   -- and have those rooms
-  rooms-of : (start : ℕ) (lent : List Lent) → rooms κs k m key word (calls_of start lent) ≡ map (λ x. x.now) lent
+  rooms-of : (start : ℕ) (lent : List LentRoom) → rooms κs k m key word (calls_of start lent) ≡ map (λ x. x.now) lent
   rooms-of start [] = refl
   rooms-of start (room ∷ lent) =
       ap (λ (l : List (List ℕ)). room.now ∷ l) (rooms-of (start + (page_outcome k m key word start room.now).written) lent)
 
   -- there are such calls, whatever rooms are lent: each with room for at least one, and together for as many as there are k-mers
-  pub through-shelf : ShelfAccepted k m key word → (lent : List Lent) → RoomForOne (map (λ x. x.now) lent) → (size_outcome k m key word).count ≤ room_of (map (λ x. x.now) lent)
+  pub through-shelf : ShelfAccepted k m key word → (lent : List LentRoom) → RoomForOne (map (λ x. x.now) lent) → (size_outcome k m key word).count ≤ room_of (map (λ x. x.now) lent)
       → ThroughShelf κs k m key word (calls_of 0 lent)
   through-shelf a lent h e =
       let o = size_outcome k m key word in
