@@ -4,7 +4,7 @@ use Rattle.std.proofs.Common.{◌-◌, ◌≤◌, rules}
 use Rattle.census.proofs.sizes_agree.Given as goal
 
 abbrev pub invariant-loop-word : goal.invariant-loop-word
-invariant-loop-word l = word ≤ l.words
+invariant-loop-word l = l.word ≤ l.words
 
 abbrev pub decreases-loop-word : goal.decreases-loop-word
-decreases-loop-word l = l.words - word
+decreases-loop-word l = l.words - l.word
