@@ -1,5 +1,6 @@
 // The shelf printer: reads standard input to its end, and writes the card of the shelf that its line names.
 #![tactic(auto)]
+
 ghost use Rattle.std.specs.Prelude.{◌≤◌, ◌≡◌, length, IfOk};
 
 use std::io;
