@@ -17,8 +17,7 @@ use Rattle.definitions.specs.Refusals.{Ground, refusal, bad_length, bad_m, bad_k
 use Rattle.definitions.specs.Outcomes as outcomes
 use Rattle.definitions.specs.Cards as cards
 use Rattle.laws.specs.Counting.{Above}
-use Rattle.laws.specs.Minima.{length-windows}
-use Rattle.laws.specs.Accepted.{word-accepted, scan-accepted, scan-place-small}
+use Rattle.laws.specs.Accepted.{word-accepted}
 use Rattle.laws.proofs.RoundTrips.{size_small}
 use Rattle.laws.specs.Numbers.{length-text}
 use Rattle.laws.specs.Orders.{key_ranking}
@@ -308,7 +307,7 @@ foreign-scan-refuses κs k m key seq room r last h =
     )
 
 -- an answer below 2^63 is no refusal
-small-accepted : (n place r : ℕ) → (0 < n → r ≡ refused_number n place) → r < 2 ^ 63 → n ≡ 0
+pub small-accepted : (n place r : ℕ) → (0 < n → r ≡ refused_number n place) → r < 2 ^ 63 → n ≡ 0
 small-accepted zero place r f h = refl
 small-accepted (suc n) place r f h = absurd (omega (arith, f (omega arith)))
 
@@ -318,20 +317,6 @@ foreign-size-told k m key word r h =
     let a = foreign-size-refuses k m key word r h in (
       small-accepted (refusal (shelf_tests k m key word)) 0 r a.1,
       λ z. omega (arith, a.0 z, size_small (word-accepted m k m key word z)),
-    )
-
--- and so the foreign scan; and a place is below 65,536, so that the number of refusal and the place can be read off
-pub foreign-scan-told : (κs : Lfts 2) (k m key : ℕ) (seq : Lent) (room : LentRoom) (r : _) (last : List ℕ) → ForeignScans κs k m key seq room r last
-    → let n = refusal (scan_tests k m key seq.now 4 room.now) in
-    ((r < 2 ^ 63) ↔ (n ≡ 0)) × (place_beside n seq.now < 65536)
-foreign-scan-told κs k m key seq room r last h =
-    let a = foreign-scan-refuses κs k m key seq room r last h in
-    let n = refusal (scan_tests k m key seq.now 4 room.now) in (
-      (
-        small-accepted n (place_beside n seq.now) r (λ g. (a.1 g).0),
-        λ z. omega (arith, a.0 z, length-windows k seq.now, (scan-accepted k m key seq.now 4 room.now z).short, (scan-accepted k m key seq.now 4 room.now z).order.k_some),
-      ),
-      scan-place-small k m key seq.now 4 room.now,
     )
 
 -- ---- room beyond what is written

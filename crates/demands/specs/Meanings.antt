@@ -73,13 +73,6 @@ module _ (key w x : Word) (fits : length w ≤ length x) where
       vigemin-unique f m x p v.inside (λ q h. rw v.stands (v.least q h)) (λ q h. rw v.stands (v.leftmost q h)) in
       (vigemin-word f m x fits ∙ ap (mer_at m x) at ∙ v.stands, at)
 
--- a word has no two vigemins of one length
-pub vigemin-one : (key w u x : Word) → length w ≡ length u → Vigemin key w x → Vigemin key u x → w ≡ u
-vigemin-one key w u x e v s =
-    let inside : length w ≤ length x = omega (arith, v.1.inside) in
-    let also : length u ≤ length x = omega (arith, s.1.inside) in
-    sym (means-vigemin key w x inside v.1).0 ∙ ap (λ (n : ℕ). vigemin (keyed key) n x) e ∙ (means-vigemin key u x also s.1).0
-
 module _ (key w : Word) where
   -- so for antemers
   pub antemer-means : (y : Word) → (antemer (keyed key) w y ≡ true) ↔ Antemer key w y

@@ -2,27 +2,26 @@
 -- contracts allow them to answer: for every k from 1 to 31, every m from 1 to k, every key and word below 4^m (`ShelfAccepted` in `Accepted` of
 -- `laws`; likewise for the other operations), and every sequence that is not refused.
 -- Assumes nothing.
-use Rattle.std.specs.Prelude.{ℕ, suc, ◌+◌, ◌-◌, ◌*◌, ◌^◌, ◌≤◌, ◌<◌, ◌&&◌, List, ◌≡◌, length, get_or}
+use Rattle.std.specs.Prelude.{ℕ, suc, ◌+◌, ◌-◌, ◌*◌, ◌≤◌, ◌<◌, ◌&&◌, List, ◌≡◌, length, get_or}
 use Rattle.std.proofs.Math.Path.{refl, ap}
 use Rattle.std.proofs.Common.{sym, subst, ◌∙◌, arith}
 use contract.Lifetimes.{Lfts}
 use Rattle.std.proofs.lemmas.List.{length-map}
 use Rattle.definitions.specs.Lists.{tabulate, over, total}
-use Rattle.definitions.specs.Words.{Word, Mer, val, word as word_of, letter_of, same, spelled, text}
-use Rattle.definitions.specs.Vigemins.{keyed, vigemin, vigemin_at, scan}
+use Rattle.definitions.specs.Words.{Word, Mer, val, word as word_of, letter_of, spelled, text}
+use Rattle.definitions.specs.Vigemins.{keyed, scan}
 use Rattle.definitions.specs.Shelves.{size, antemers, postmers, antemer, postmer, begins, column}
 use Rattle.definitions.specs.Refusals.{refusal}
-use Rattle.definitions.specs.Outcomes.{Packed, Unpacked, Found, Counted, Worked, Scanned, ForeignScanned, size_answer, size_outcome, worksheet_answer, worksheet_outcome, counter_answer, counter_outcome, scan_answer, scan_outcome, scan_bytes_outcome, foreign_scan_outcome, scan_grounds, coded, as_bytes}
+use Rattle.definitions.specs.Outcomes.{Packed, Unpacked, Counted, Worked, Scanned, ForeignScanned, size_answer, size_outcome, worksheet_answer, worksheet_outcome, counter_answer, counter_outcome, scan_answer, scan_outcome, scan_bytes_outcome, foreign_scan_outcome, scan_grounds, coded, as_bytes}
 use Rattle.laws.specs.Tests.{and_l, and_r, and_i, same-eq, eq-same}
-use Rattle.laws.specs.Numbers.{four-pos, number_lt, digits-below, digits_number, length_digits}
-use Rattle.laws.specs.Minima.{length-windows, vigemin-mer}
+use Rattle.laws.specs.Numbers.{length_digits}
+use Rattle.laws.specs.Minima.{length-windows}
 use Rattle.laws.specs.Scans.{length-scan, scan-inside, scan-least, scan-leftmost}
 use Rattle.laws.specs.Split.{column-at, column-above}
-use Rattle.laws.specs.Accepted.{PackAccepted, UnpackAccepted, ShelfAccepted, VigeminAccepted, CounterAccepted, ScanAccepted, accepted-word, accepted-counter, accepted-scan, size-refusal, size-count}
-use Rattle.laws.proofs.RoundTrips.{pack-outcome, unpack-outcome, vigemin-outcome, counter-row, worksheet-size}
-use Rattle.demands.specs.Promises.{Lent, LentRoom, Packs, Unpacks, Finds, Scans, ScansBytes, Works, Sizes, Counts, ForeignScans, ForeignSizes}
-use Rattle.demands.specs.Meanings.{mer_at, keyed_number, VigeminAt, Vigemin, Antemer, Postmer, Number, vigemin-means, means-vigemin, antemer-means, postmer-means, number-filter}
-use Rattle.demands.specs.First.{foreign-size-refuses}
+use Rattle.laws.specs.Accepted.{PackAccepted, UnpackAccepted, ShelfAccepted, CounterAccepted, ScanAccepted, accepted-word, accepted-counter, accepted-scan, size-count}
+use Rattle.laws.proofs.RoundTrips.{pack-outcome, unpack-outcome, counter-row, worksheet-size}
+use Rattle.demands.specs.Promises.{Lent, LentRoom, Packs, Unpacks, Scans, ScansBytes, Works, Sizes, Counts, ForeignScans}
+use Rattle.demands.specs.Meanings.{mer_at, keyed_number, Vigemin, Antemer, Postmer, Number, antemer-means, postmer-means, number-filter}
 
 -- ---- sizes and worksheets
 
@@ -46,16 +45,7 @@ pub record WorksheetIs (k m : ℕ) (key w : Word) (before after : List ℕ) : Ty
   pub rows : (length before ≡ 31) × (length after ≡ 31)
 
 module _ (key w : Word) where
-  -- the size that is defined is that number
-  size-means : (k : ℕ) → length w ≤ k → SizeIs k key w (size (keyed key) k w)
-  size-means k fits =
-      number-filter (λ x. same (vigemin (keyed key) (length w) x) w) k (Vigemin key w)
-      (λ x h. let inside : length w ≤ length x = rw h.0 fits in (
-        λ e. (vigemin_at (keyed key) (length w) x, vigemin-means key w x inside (same-eq (vigemin (keyed key) (length w) x) w e)),
-        λ v. eq-same (means-vigemin key w x inside v.1).0,
-      ))
-
-  -- and so for the rows of the worksheet
+  -- the rows of the worksheet that are defined are those numbers
   antemers-mean : (a : ℕ) → AntemersAre key w a (antemers (keyed key) w a)
   antemers-mean a = number-filter (antemer (keyed key) w) a (Antemer key w) (λ y h. antemer-means key w y)
 
@@ -75,18 +65,6 @@ module _ {k m key word : ℕ} (a : ShelfAccepted k m key word) where
   -- what the size may answer is the size that is defined
   pub size-defined : (r : _) → Sizes k m key word r → r.count ≡ size (keyed (word_of m key)) k (word_of m word)
   size-defined r h = ap (λ (o : Counted). o.count) h ∙ size-count k m key word (accepted-word a)
-
-  -- whatever the size may answer is the number of k-mers with that vigemin
-  pub size-right : (r : _) → Sizes k m key word r → (r.refusal ≡ 0) × SizeIs k (word_of m key) (word_of m word) r.count
-  size-right r h = (
-    ap (λ (o : Counted). o.refusal) h ∙ size-refusal k m key word ∙ accepted-word a,
-    subst (SizeIs k (word_of m key) (word_of m word)) (sym (size-defined r h)) (size-means (word_of m key) (word_of m word) k fits),
-  )
-
-  -- and so the foreign size
-  pub foreign-size-right : (r : _) → ForeignSizes k m key word r → SizeIs k (word_of m key) (word_of m word) r
-  foreign-size-right r h =
-      subst (SizeIs k (word_of m key) (word_of m word)) (sym ((foreign-size-refuses k m key word r h).0 (accepted-word a))) (size-means (word_of m key) (word_of m word) k fits)
 
   -- what the worksheet answers where nothing is refused
   worked-columns : (r : _) → Works k m key word r
@@ -144,25 +122,6 @@ counter-worksheet {k} {m} {key} {word} a r h s g =
     ∙ ap (λ (o : Worked). get_or o.antemers (k - m) 0) (sym g)
 
 -- ---- the vigemin and the scan
-
--- whatever the vigemin may answer is the vigemin of the k-mer and its position
-pub vigemin-right : {k m key kmer : ℕ} → VigeminAccepted k m key kmer → (r : _) → Finds k m key kmer r
-    → (r.refusal ≡ 0) × (r.word < 4 ^ m) × VigeminAt (word_of m key) (word_of m r.word) (word_of k kmer) r.position
-vigemin-right {k} {m} {key} {kmer} a r h =
-    let f = keyed (word_of m key) in
-    let x = word_of k kmer in
-    let e = h ∙ vigemin-outcome a in
-    let inside : m ≤ length x = rw (length_digits 4 k kmer) a.order.m_fits in
-    let v : Mer m (vigemin f m x) = vigemin-mer f m x inside (digits-below four-pos k kmer) in
-    let number : r.word ≡ val (vigemin f m x) = ap (λ (o : Found). o.word) e in
-    let word : word_of m r.word ≡ vigemin f m x = ap (word_of m) number ∙ digits_number 4 (vigemin f m x) v.1 v.0 in
-    let long : length (word_of m r.word) ≡ m = length_digits 4 m r.word in
-    let at : r.position ≡ vigemin_at f m x = ap (λ (o : Found). o.position) e in (
-      ap (λ (o : Found). o.refusal) e,
-      rw number (subst (λ (n : ℕ). val (vigemin f m x) < 4 ^ n) v.0 (number_lt 4 (vigemin f m x) v.1)),
-      subst (VigeminAt (word_of m key) (word_of m r.word) x) (ap (λ (n : ℕ). vigemin_at f n x) long ∙ sym at)
-          (vigemin-means (word_of m key) (word_of m r.word) x (rw long inside) (ap (λ (n : ℕ). vigemin f n x) long ∙ sym word)),
-    )
 
 -- the position for the window of k letters at place i of a sequence: it lies in the window with all m letters; no m-mer of the window is below the
 -- one there, once keyed; and each of the window to its left is strictly above

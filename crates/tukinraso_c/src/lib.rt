@@ -1,6 +1,7 @@
 // The foreign forms as Rust and C link them: each calls the one of its name in the crate `tukinraso`, and keeps its contract. A slice passes as a pointer
 // and a length. Assumes that both are valid, a null pointer only with length 0, and that `seq` and `room` do not overlap (docs/OUTCOMES.md).
 #![tactic(auto)]
+
 ghost use Rattle.std.specs.Prelude.{◌≡◌};
 ghost use Rattle.definitions.specs.Outcomes as outcomes;
 ghost use Rattle.tukinraso.specs.Answers.{foreign_scanned};

@@ -19,7 +19,7 @@ none : (c : goal.Else-bad-n) → refusal (pack_grounds c.args.text.now) ≡ 0
 none c =
     let text = c.args.text.now in
     let good : not (all is_letter_byte text) ≡ false =
-        sym (first_bad_place-all text) ∙ le-ltb (first_bad_place text) (length text) (rw c.first_bad-bad.ensures at c.if-bad-n.false) in
+    sym (first_bad_place-all text) ∙ le-ltb (first_bad_place text) (length text) (rw c.first_bad-bad.ensures at c.if-bad-n.false) in
     rw (c.if-n.false, good)
 
 pub returns-then-n : goal.returns-then-n
@@ -33,7 +33,7 @@ unfolding pack_outcome pack_answer
 returns-then-bad-n c =
     let text = c.args.text.now in
     let bad : not (all is_letter_byte text) ≡ true =
-        sym (first_bad_place-all text) ∙ lt-ltb (first_bad_place text) (length text) (rw c.first_bad-bad.ensures at c.if-bad-n.true) in
+    sym (first_bad_place-all text) ∙ lt-ltb (first_bad_place text) (length text) (rw c.first_bad-bad.ensures at c.if-bad-n.true) in
     rw (c.if-n.false, bad) (ap (λ (p : ℕ). record { refusal = 6; place = p; word = 0 }) c.first_bad-bad.ensures)
 
 pub read-requires : goal.read-requires

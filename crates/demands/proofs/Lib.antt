@@ -1,0 +1,10 @@
+-- The theorems that rest on the meaning of the vigemin, or on the list of what a scan tests: their notions are in specs/, and each is said there.
+--
+-- Meanings      vigemin-one
+-- First         demand 1: foreign-scan-told
+-- Second        demand 2: size-means, size-right, foreign-size-right, vigemin-right
+-- Third         demand 3: shelf-means, pages-right, one-shelf, list_right, exactly-one-shelf
+pub mod Meanings
+pub mod First
+pub mod Second
+pub mod Third
