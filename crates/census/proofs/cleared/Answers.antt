@@ -1,6 +1,6 @@
 -- `census::cleared` ends, and stays in the room and in the shelf. The loop's invariant: `i` is at most the length, which the room keeps. The measure is
 -- what is left of the length. Assumes nothing.
-use Rattle.std.proofs.Common.{◌≡◌, ◌-◌, ◌≤◌, length, arith, length-set, rules}
+use Rattle.std.proofs.Common.{arith, length-set, rules}
 use Rattle.census.proofs.cleared.Goals as goal
 
 pub loop-i-smaller : goal.loop-i-smaller

@@ -1,6 +1,6 @@
 -- `census::cleared` ends, and stays in the room and in the shelf. The loop's invariant: `i` is at most the length, which the room keeps. The measure is
 -- what is left of the length. Assumes nothing.
-use Rattle.std.proofs.Common.{◌≡◌, ◌-◌, ◌≤◌, length, arith, length-set, rules}
+use Rattle.std.proofs.Common.{◌≡◌, ◌-◌, ◌≤◌, length}
 use Rattle.census.proofs.cleared.Given as goal
 
 abbrev pub invariant-loop-i : goal.invariant-loop-i

@@ -1,6 +1,6 @@
 -- `census::compare` ends. The loop's invariant: m is at most 9. The measure is how many are left.
 -- Assumes nothing.
-use Rattle.std.proofs.Common.{◌-◌, ◌≤◌, rules}
+use Rattle.std.proofs.Common.{◌-◌, ◌≤◌}
 use Rattle.census.proofs.compare.Given as goal
 
 abbrev pub invariant-loop-m : goal.invariant-loop-m

@@ -1,6 +1,6 @@
 -- `census::list` meets its contract. The loop's invariant: at most as many k-mers are passed as were looked at. The measure is how many are left.
 -- Assumes nothing.
-use Rattle.std.proofs.Common.{◌-◌, ◌≤◌, rules}
+use Rattle.std.proofs.Common.{◌-◌, ◌≤◌}
 use Rattle.census.proofs.list.Given as goal
 
 abbrev pub invariant-loop-kmer : goal.invariant-loop-kmer

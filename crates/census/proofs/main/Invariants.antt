@@ -1,6 +1,6 @@
 -- `census::main` ends. The loop's invariant: k is at most 9. The measure is how many are left.
 -- Assumes nothing.
-use Rattle.std.proofs.Common.{◌-◌, ◌≤◌, rules}
+use Rattle.std.proofs.Common.{◌-◌, ◌≤◌}
 use Rattle.census.proofs.main.Given as goal
 
 abbrev pub invariant-loop-k : goal.invariant-loop-k

@@ -1,6 +1,6 @@
 -- `census::pages_of` ends, and stays in the shelf. The loop's invariant: at most as many pages were taken as k-mers were handed out, and the room keeps
 -- its length. The measure is how many k-mers are left. Assumes nothing.
-use Rattle.std.proofs.Common.{◌≡◌, ◌-◌, ◌≤◌, length, rules}
+use Rattle.std.proofs.Common.{◌≡◌, ◌-◌, ◌≤◌, length}
 use Rattle.census.proofs.pages_of.Given as goal
 
 abbrev pub invariant-loop-s : goal.invariant-loop-s

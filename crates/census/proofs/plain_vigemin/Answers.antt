@@ -1,13 +1,16 @@
 -- `census::plain_vigemin` meets its contract. The loop's invariant: the word has at most 8 letters, and the position with `behind`, which falls
 -- by at least as much as the position rises, is at most 4^8. The measure is `behind`. Assumes nothing.
-use Rattle.std.proofs.Common.{◌+◌, ◌/◌, ◌<◌, ◌≤◌, ⊎_elim, mod-lt, div-le_self, arith, rules}
+use Rattle.std.proofs.Common.{◌/◌, mod-lt, div-le_self, arith}
 use Rattle.census.proofs.plain_vigemin.Goals as goal
+use Rattle.census.proofs.plain_vigemin.Goals.{then-value-least, else-value-least}
 
 pub loop-behind-init : goal.loop-behind-init
 loop-behind-init c = (omega arith, omega (arith, div-le_self c.power.result c.power-words.result))
 
 pub loop-behind-preserved : goal.loop-behind-preserved
 loop-behind-preserved c =
-    let start = c in
-    let mer = start.args.kmer / c.loop-behind.behind in
-    ⊎_elim (λ w. (omega (arith, mod-lt mer {m = start.power-words.result} (omega arith)), omega arith)) (λ w. omega arith) c.if-value-least.branch
+    let mer = c.args.kmer / c.loop-behind.behind in
+    elim c.if-value-least.branch [
+      | then-value-least w ↦ rw w.word-is (omega (arith, mod-lt mer {m = c.power-words.result} (omega arith)), omega arith)
+      | else-value-least w ↦ rw w.word-is (omega arith)
+    ]

@@ -1,6 +1,6 @@
 -- `census::plain_vigemin` meets its contract. The loop's invariant: the word has at most 8 letters, and the position with `behind`, which falls
 -- by at least as much as the position rises, is at most 4^8. The measure is `behind`. Assumes nothing.
-use Rattle.std.proofs.Common.{◌+◌, ◌/◌, ◌<◌, ◌≤◌, ⊎_elim, mod-lt, div-le_self, arith, rules}
+use Rattle.std.proofs.Common.{◌+◌, ◌<◌, ◌≤◌}
 use Rattle.census.proofs.plain_vigemin.Given as goal
 
 abbrev pub invariant-loop-behind : goal.invariant-loop-behind

@@ -1,6 +1,6 @@
 -- `census::shelf_pages` ends, and takes rooms within the room. The loop's invariant: four rooms at most were taken, and the room keeps its length. The
 -- measure is how many are left. Assumes nothing.
-use Rattle.std.proofs.Common.{◌≡◌, ◌-◌, ◌≤◌, length, rules}
+use Rattle.std.proofs.Common.{◌≡◌, ◌-◌, ◌≤◌, length}
 use Rattle.census.proofs.shelf_pages.Given as goal
 
 abbrev pub invariant-loop-n : goal.invariant-loop-n

@@ -1,6 +1,6 @@
 -- `census::shelves_pages` ends. The loop's invariant: four shelves at most were gone through. The measure is how many are left.
 -- Assumes nothing.
-use Rattle.std.proofs.Common.{◌-◌, ◌≤◌, rules}
+use Rattle.std.proofs.Common.{◌-◌, ◌≤◌}
 use Rattle.census.proofs.shelves_pages.Given as goal
 
 abbrev pub invariant-loop-n : goal.invariant-loop-n

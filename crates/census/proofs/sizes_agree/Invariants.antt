@@ -1,6 +1,6 @@
 -- `census::sizes_agree` ends, and reads within the tally. The loop's invariant: `word` is at most the number of words. The measure is how many
 -- are left. Assumes nothing.
-use Rattle.std.proofs.Common.{◌-◌, ◌≤◌, rules}
+use Rattle.std.proofs.Common.{◌-◌, ◌≤◌}
 use Rattle.census.proofs.sizes_agree.Given as goal
 
 abbrev pub invariant-loop-word : goal.invariant-loop-word

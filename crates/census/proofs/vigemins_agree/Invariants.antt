@@ -1,6 +1,6 @@
 -- `census::vigemins_agree` ends, and writes within the tables. The loop's invariant: `kmer` is at most the number of k-mers. The measure is how
 -- many are left. Assumes nothing.
-use Rattle.std.proofs.Common.{◌-◌, ◌≤◌, rules}
+use Rattle.std.proofs.Common.{◌-◌, ◌≤◌}
 use Rattle.census.proofs.vigemins_agree.Given as goal
 
 abbrev pub invariant-loop-kmer : goal.invariant-loop-kmer

@@ -1,5 +1,5 @@
 -- `cases::rooms::bytes_are` is safe and ends. The invariant: the place is at most 8. The measure is the number of bytes that are left. Assumes nothing.
-use Rattle.std.proofs.Common.{◌-◌, ◌≤◌, rules}
+use Rattle.std.proofs.Common.{◌-◌, ◌≤◌}
 use Rattle.cases.proofs.rooms.bytes_are.Given as goal
 
 abbrev pub invariant-loop-i : goal.invariant-loop-i

@@ -1,5 +1,5 @@
 -- `cases::rooms::positions_are` is safe and ends. The invariant: the place is at most 6. The measure is the number of entries that are left. Assumes nothing.
-use Rattle.std.proofs.Common.{◌-◌, ◌≤◌, rules}
+use Rattle.std.proofs.Common.{◌-◌, ◌≤◌}
 use Rattle.cases.proofs.rooms.positions_are.Given as goal
 
 abbrev pub invariant-loop-i : goal.invariant-loop-i

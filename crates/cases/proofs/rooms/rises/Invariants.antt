@@ -1,5 +1,5 @@
 -- `cases::rooms::rises` is safe and ends. The invariant: the place is at most the length. The measure is what is left of the length. Assumes nothing.
-use Rattle.std.proofs.Common.{◌-◌, ◌≤◌, length, rules}
+use Rattle.std.proofs.Common.{◌-◌, ◌≤◌, length}
 use Rattle.cases.proofs.rooms.rises.Given as goal
 
 abbrev pub invariant-loop-i : goal.invariant-loop-i

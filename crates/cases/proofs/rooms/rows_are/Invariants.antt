@@ -1,5 +1,5 @@
 -- `cases::rooms::rows_are` is safe and ends. The invariant: the row is at most 31. The measure is the number of rows that are left. Assumes nothing.
-use Rattle.std.proofs.Common.{◌-◌, ◌≤◌, rules}
+use Rattle.std.proofs.Common.{◌-◌, ◌≤◌}
 use Rattle.cases.proofs.rooms.rows_are.Given as goal
 
 abbrev pub invariant-loop-i : goal.invariant-loop-i
