@@ -16,7 +16,7 @@ use Rattle.definitions.specs.Outcomes.{Unpacked, unpack_outcome}
 use Rattle.definitions.specs.Cards.{Asked, ascii, decimal_in, decimal, settings, entries}
 use Rattle.laws.specs.Numbers.{length-text}
 use Rattle.laws.specs.Accepted.{UnpackAccepted}
-use Rattle.laws.proofs.RoundTrips.{unpack-outcome}
+use Rattle.laws.specs.RoundTrips.{unpack-outcome}
 use Rattle.laws.specs.Rooms.{over_to-more, over_to-all, over-append, length_over, rest-whole}
 use Rattle.cards.specs.Texts.{Laid, LaidDecimal, WordFits, KmersFit, key_part_text, word_part_text}
 

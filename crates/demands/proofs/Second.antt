@@ -11,7 +11,7 @@ use Rattle.laws.specs.Tests.{same-eq, eq-same}
 use Rattle.laws.specs.Numbers.{four-pos, number_lt, digits-below, digits_number, length_digits}
 use Rattle.laws.specs.Minima.{vigemin-mer}
 use Rattle.laws.specs.Accepted.{ShelfAccepted, VigeminAccepted, accepted-word, size-refusal}
-use Rattle.laws.proofs.RoundTrips.{vigemin-outcome}
+use Rattle.laws.specs.RoundTrips.{vigemin-outcome}
 use Rattle.demands.specs.Promises.{Finds, Sizes, ForeignSizes}
 use Rattle.demands.specs.Meanings.{VigeminAt, Vigemin, vigemin-means, means-vigemin, number-filter}
 use Rattle.demands.specs.First.{foreign-size-refuses}

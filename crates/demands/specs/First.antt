@@ -18,7 +18,7 @@ use Rattle.definitions.specs.Outcomes as outcomes
 use Rattle.definitions.specs.Cards as cards
 use Rattle.laws.specs.Counting.{Above}
 use Rattle.laws.specs.Accepted.{word-accepted}
-use Rattle.laws.proofs.RoundTrips.{size_small}
+use Rattle.laws.specs.RoundTrips.{size_small}
 use Rattle.laws.specs.Numbers.{length-text}
 use Rattle.laws.specs.Orders.{key_ranking}
 use Rattle.laws.specs.Refusals.{numbers, rising, refusal-met, refusal-zero, refusal-none, refusal-lowest}

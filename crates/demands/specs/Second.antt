@@ -19,7 +19,8 @@ use Rattle.laws.specs.Minima.{length-windows}
 use Rattle.laws.specs.Scans.{length-scan, scan-inside, scan-least, scan-leftmost}
 use Rattle.laws.specs.Split.{column-at, column-above}
 use Rattle.laws.specs.Accepted.{PackAccepted, UnpackAccepted, ShelfAccepted, CounterAccepted, ScanAccepted, accepted-word, accepted-counter, accepted-scan, size-count}
-use Rattle.laws.proofs.RoundTrips.{pack-outcome, unpack-outcome, counter-row, worksheet-size}
+use Rattle.laws.specs.RoundTrips.{pack-outcome, unpack-outcome, counter-row}
+use Rattle.laws.proofs.RoundTrips.{worksheet-size}
 use Rattle.demands.specs.Promises.{Lent, LentRoom, Packs, Unpacks, Scans, ScansBytes, Works, Sizes, Counts, ForeignScans}
 use Rattle.demands.specs.Meanings.{mer_at, keyed_number, Vigemin, Antemer, Postmer, Number, antemer-means, postmer-means, number-filter}
 

@@ -1,11 +1,10 @@
--- The laws on which no definition rests, in the order in which one builds on another.
+-- The laws that rest on a definition, or on a law, that an edit of must-fail/ changes, in the order in which one builds on another.
 --
 -- Scans                     the positions of a scan never go back
 -- Split                     the size is the sum of antemers times postmers
 -- RulesHold                 that document 01's rule holds
 -- ByPrefix, Antemers, Postmers   each of document 01's rules, by name
--- RoundTrips                packing and unpacking lead back to each other; a scan agrees with the vigemin of each window, and the plain
---                           counter and the size with the worksheet
+-- RoundTrips                a scan agrees with the vigemin of each window, and the size with the worksheet
 pub mod Scans
 pub mod Split
 pub mod RulesHold

@@ -1,5 +1,6 @@
 -- What is proved of the definitions, once. docs/LAWS.md lists the main theorems; here is what each file is about, in the order in
--- which one builds on another. ρ is a ranking of the letters for each place, one-to-one at each; the keyed form goes by such a one.
+-- which one builds on another. ρ is a ranking of the letters for each place, one-to-one at each; the keyed form goes by such a one. What rests on a
+-- definition that an edit of must-fail/ changes stands in proofs/: RulesHold, ByPrefix, Antemers, Postmers, and parts of Scans, Split and RoundTrips.
 --
 -- Tests, Filters, Places    tests joined; what is chosen from lists and from all words of n + 1 letters; tests at the places below n
 -- Numbers                   words and numbers: one-to-one, in order, ⊕ as XOR, the m-mer at a place, letters and bytes
@@ -51,6 +52,7 @@ pub mod Rules
 pub mod Print
 pub mod Refusals
 pub mod Accepted
+pub mod RoundTrips
 pub mod Listings
 pub mod Cards
 pub mod Promises

@@ -13,7 +13,7 @@ use Rattle.definitions.specs.Refusals.{refusal}
 use Rattle.definitions.specs.Outcomes.{Packed, pack_grounds, pack_outcome}
 use Rattle.definitions.specs.Cards.{space, line_feed, before, behind, Parts, parts, is_number, number_of, is_word, proper, well_formed, asks, Line, read_answer, read_outcome}
 use Rattle.laws.specs.Tests.{not-and}
-use Rattle.laws.proofs.RoundTrips.{pack-outcome}
+use Rattle.laws.specs.RoundTrips.{pack-outcome}
 use Rattle.laws.specs.Places.{first_place-le}
 use Rattle.laws.specs.Accepted.{pack-refusal}
 use Rattle.laws.specs.Cards.{length_before, length-behind, line-test, proper-parts}

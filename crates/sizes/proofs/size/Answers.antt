@@ -9,7 +9,8 @@ use Rattle.definitions.specs.Shelves.{size as shelf_size}
 use Rattle.definitions.specs.Refusals.{refusal}
 use Rattle.definitions.specs.Outcomes.{Worked, shelf_grounds, worksheet_outcome, size_answer, size_outcome}
 use Rattle.laws.specs.Split.{product_sum}
-use Rattle.laws.proofs.RoundTrips.{size_small, worksheet-size}
+use Rattle.laws.specs.RoundTrips.{size_small}
+use Rattle.laws.proofs.RoundTrips.{worksheet-size}
 use Rattle.laws.specs.Accepted.{ShelfAccepted, word-accepted, worksheet_answer-refusal}
 use Rattle.sizes.proofs.size.Goals as goal
 use Rattle.sizes.proofs.size.Goals.{Else-worked-ne0}
