@@ -1,4 +1,5 @@
--- `cases::columns::numbers` is safe and ends. The invariant: the place is within the text, and the column is at most 17. The measure is what is left of the text. Assumes nothing.
+-- `cases::columns::numbers` is safe and ends. The invariant: the place is within the text, and the column is at most 17. The measure is what is left
+-- of the text. Assumes nothing.
 use Rattle.std.proofs.Common.{◌-◌, ◌≤◌, length}
 use Rattle.cases.proofs.columns.numbers.Given as goal
 

@@ -1,4 +1,5 @@
--- `cases::operations::sum_of_sizes` is safe and ends. The invariant: the word is at most the one that was given. The measure is the number of words that are left. Assumes nothing.
+-- `cases::operations::sum_of_sizes` is safe and ends. The invariant: the word is at most the one that was given. The measure is the number of words
+-- that are left. Assumes nothing.
 use Rattle.std.proofs.Common.{◌-◌, ◌≤◌}
 use Rattle.cases.proofs.operations.sum_of_sizes.Given as goal
 

@@ -1,4 +1,5 @@
--- `cases::rooms::kmers_are` is safe and ends. The invariant: the place is at most 5. The measure is the number of entries that are left. Assumes nothing.
+-- `cases::rooms::kmers_are` is safe and ends. The invariant: the place is at most 5. The measure is the number of entries that are left. Assumes
+-- nothing.
 use Rattle.std.proofs.Common.{◌-◌, ◌≤◌}
 use Rattle.cases.proofs.rooms.kmers_are.Given as goal
 

@@ -1,4 +1,5 @@
--- `cases::rooms::positions_are` is safe and ends. The invariant: the place is at most 6. The measure is the number of entries that are left. Assumes nothing.
+-- `cases::rooms::positions_are` is safe and ends. The invariant: the place is at most 6. The measure is the number of entries that are left. Assumes
+-- nothing.
 use Rattle.std.proofs.Common.{◌-◌, ◌≤◌}
 use Rattle.cases.proofs.rooms.positions_are.Given as goal
 
