@@ -1,0 +1,2 @@
+-- Determined    the contracts of the exports take every input and determine the outcomes
+pub mod Determined
