@@ -1,4 +1,4 @@
-//! The archive that ships is for x86-64. A caller in C, which passes null pointers too, tries it on every machine.
+//! The archive that ships is for x86-64. A caller in C, which passes null pointers too, tries it, on another machine where that has an emulator.
 
 use std::process::Command;
 

@@ -1,4 +1,4 @@
--- The theorems that rest on the meaning of the vigemin, or on the list of what a scan tests: their notions are in specs/, and each is said there.
+-- The theorems that rest on the meaning of the vigemin, or on the list of what a scan tests. Their notions are in specs/, in the file of the same name.
 --
 -- Meanings      vigemin-one
 -- First         demand 1: foreign-scan-told

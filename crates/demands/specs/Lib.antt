@@ -16,7 +16,8 @@
 -- Third         demand 3: pages in a row hold the shelf, and every k-mer stands on exactly one shelf of a key
 --                   pages-accepted, pages-end, pages-enough, pages-right, exactly-one-shelf, through-shelf, one-shelf; page-right, list_right
 --                   Of these and of demands 1 and 2, what rests on the meaning of the vigemin or on the list of a scan stands in proofs/, in the file of that
---                   name: foreign-scan-told; size-right, foreign-size-right, vigemin-right; pages-right, one-shelf, list_right, exactly-one-shelf
+--                   name: vigemin-one; foreign-scan-told; size-means, size-right, foreign-size-right, vigemin-right; shelf-means, pages-right, one-shelf,
+--                   list_right, exactly-one-shelf
 -- Determined    for every public function: its contract asks nothing, and any two outcomes that it allows are equal
 --                   every-input, every-contract
 pub mod Promises

@@ -1,6 +1,7 @@
 -- Demand 2. The size of a shelf, the counts of its worksheet, the plain counter, the vigemin and the scan are what the notions say, whatever their
 -- contracts allow them to answer: for every k from 1 to 31, every m from 1 to k, every key and word below 4^m (`ShelfAccepted` in `Accepted` of
 -- `laws`; likewise for the other operations), and every sequence that is not refused.
+-- That the size and the vigemin are so stands in proofs/.
 -- Assumes nothing.
 use Rattle.std.specs.Prelude.{ℕ, suc, ◌+◌, ◌-◌, ◌*◌, ◌≤◌, ◌<◌, ◌&&◌, List, ◌≡◌, length, get_or}
 use Rattle.std.proofs.Math.Path.{refl, ap}

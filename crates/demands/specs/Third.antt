@@ -2,6 +2,7 @@
 -- shelf, each once, in alphabet order, and no other, and their number is the size; and over all words of a key every k-mer stands on exactly one
 -- shelf. It is said of whatever the contracts of `page`, `size` and `vigemin` allow, for every k from 1 to 31, every m from 1 to k, every key and
 -- word below 4^m.
+-- Here stand the notions, and what is said of calls of `page` in a row; that they hold the shelf, and the last sentence, stand in proofs/.
 -- Assumes nothing.
 use Rattle.std.specs.Prelude.{ℕ, ◌+◌, ◌-◌, ◌^◌, ◌≤◌, ◌<◌, min, ◌≡◌, refl, length, get_or}
 use mathlib.Core.List.{List, [], ◌∷◌, ◌++◌, map, Memᴰ}

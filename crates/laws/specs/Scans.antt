@@ -1,4 +1,4 @@
--- The scan of a sequence: what it holds, that its positions never go back, and the scan of a part.
+-- The scan of a sequence: what it holds, and the scan of a part. That its positions never go back stands in proofs/.
 -- Assumes nothing.
 use Rattle.std.specs.Prelude.{ℕ, zero, suc, ◌+◌, ◌-◌, ◌≤◌, ◌<◌, List, [], ◌∷◌, map, ◌≡◌, refl, length, get_or, take, drop}
 use Rattle.std.proofs.Common.{sym, ap, ◌∙◌, le_of_suc-le-suc, not-suc-le-zero, arith, length-take, length-drop, drop-drop, ext_get_or, get_or-drop, get_or-take}

@@ -1,4 +1,4 @@
--- The size of a shelf is the sum of antemers times postmers: each k-mer of the shelf is cut where w first stands.
+-- The rows of a worksheet, and the sum of antemers times postmers over them. That the size of a shelf is that sum stands in proofs/.
 -- Assumes nothing.
 use Rattle.std.specs.Prelude.{ℕ, ◌+◌, ◌-◌, ◌*◌, ◌≤◌, ◌<◌, Bool, ◌≡◌, refl, leb, length, get_or}
 use Rattle.std.proofs.Common.{ap, ◌∙◌, le-leb}

@@ -1,4 +1,4 @@
--- `cards::lay` meets its contract. The loop's invariant: the first i bytes are written. The measure is how many are left.
+-- `cards::lay` meets its contract.
 -- Assumes nothing.
 use mathlib.Core.Path.{◌≡◌, refl}
 use native.Mathlib.Numerals.{add-one}

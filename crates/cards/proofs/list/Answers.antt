@@ -1,4 +1,4 @@
--- `cards::list` meets its contract. The loop's invariant: the lines of the first i k-mers are written. The measure is how many are left.
+-- `cards::list` meets its contract.
 -- Assumes nothing.
 use native.Mathlib.Omega.{arith}
 use native.Mathlib.Numerals.{add-one}

@@ -1,5 +1,5 @@
--- `census::cleared` ends, and stays in the room and in the shelf. The loop's invariant: `i` is at most the length, which the room keeps. The measure is
--- what is left of the length. Assumes nothing.
+-- `census::cleared` ends, and stays in the room and in the shelf.
+-- Assumes nothing.
 use Rattle.std.proofs.Common.{arith, length-set, rules}
 use Rattle.census.proofs.cleared.Goals as goal
 

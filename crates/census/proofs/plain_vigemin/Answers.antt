@@ -1,5 +1,5 @@
--- `census::plain_vigemin` meets its contract. The loop's invariant: the word has at most 8 letters, and the position with `behind`, which falls
--- by at least as much as the position rises, is at most 4^8. The measure is `behind`. Assumes nothing.
+-- `census::plain_vigemin` meets its contract.
+-- Assumes nothing.
 use Rattle.std.proofs.Common.{◌/◌, mod-lt, div-le_self, arith}
 use Rattle.census.proofs.plain_vigemin.Goals as goal
 use Rattle.census.proofs.plain_vigemin.Goals.{then-value-least, else-value-least}

@@ -1,5 +1,4 @@
--- `counters::banned` meets its contract. The loop's invariant: none of the shared lengths that it passed bans an antemer. The measure is how
--- many are left.
+-- `counters::banned` meets its contract.
 -- Assumes nothing.
 use mathlib.Core.Path.{sym, ◌∙◌}
 use native.Mathlib.Omega.{arith}

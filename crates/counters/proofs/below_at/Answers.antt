@@ -1,4 +1,4 @@
--- `counters::below_at` meets its contract. The loop's invariant: no R(i,j) that it passed is below. The measure is how many are left.
+-- `counters::below_at` meets its contract.
 -- Assumes nothing.
 use mathlib.Core.Path.{sym, ◌∙◌}
 use native.Mathlib.Omega.{arith}

@@ -1,5 +1,4 @@
--- `counters::least_tied` meets its contract. The loop's invariant: at no j that it passed is R(i,j) equal and the letter a(i-j+2). The measure
--- is how many are left.
+-- `counters::least_tied` meets its contract.
 -- Assumes nothing.
 use mathlib.Core.Bool.{true, ◌&&◌}
 use mathlib.Core.Path.{◌≡◌, ◌∙◌}

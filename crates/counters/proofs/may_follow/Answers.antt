@@ -1,5 +1,4 @@
--- `counters::may_follow` meets its contract. The loop's invariant: at no j that it passed is the letter hindered, so that R(i,j) is equal and the
--- letter neither lies in Σ(i-j+2) nor is a(i-j+2). The measure is how many are left.
+-- `counters::may_follow` meets its contract.
 -- Assumes nothing.
 use mathlib.Core.Bool.{true, ◌&&◌}
 use mathlib.Core.Path.{◌≡◌, ◌∙◌}

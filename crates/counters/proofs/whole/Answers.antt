@@ -1,4 +1,4 @@
--- `counters::whole` meets its contract. The loop's invariant: none of the m-mers that it passed is at most the word. The measure is how many are left.
+-- `counters::whole` meets its contract.
 -- Assumes nothing.
 use native.Mathlib.Nat.{one-le-pow}
 use native.Mathlib.Omega.{arith}

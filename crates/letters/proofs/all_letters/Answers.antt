@@ -1,5 +1,4 @@
--- `letters::all_letters` meets its contract. The loop's invariant: what was found so far, with whether all that is left are letters, is
--- whether all are. The measure is what is left of the length.
+-- `letters::all_letters` meets its contract.
 -- Assumes nothing.
 use Prim.Native.Nat.{ℕ, suc, ◌<◌}
 use mathlib.Core.Bool.{Bool, true, false, ◌&&◌}

@@ -1,5 +1,4 @@
--- `letters::find_bad` meets its contract. The loop's invariant: the first bad place of what is left, counted from here, is that of all. The
--- measure is what is left of the length.
+-- `letters::find_bad` meets its contract.
 -- Assumes nothing.
 use Prim.Native.Nat.{ℕ}
 use mathlib.Core.Bool.{Bool, true, false, not}

@@ -1,5 +1,4 @@
--- `lines::find` meets its contract. The loop's invariant: the first place in what is left, counted from here, is that in all. The measure is what
--- is left of the length.
+-- `lines::find` meets its contract.
 -- Assumes nothing.
 use native.Mathlib.Numerals.{add-one}
 use native.Mathlib.Omega.{arith}

@@ -1,4 +1,4 @@
--- `listers::list_pages` meets its contract. The loop's invariant: the k-mers of the places before `at` are written. The measure is how many are left.
+-- `listers::list_pages` meets its contract.
 -- Assumes nothing.
 use Prim.Native.Nat.{◌+◌, ◌-◌, ◌≤◌, ◌<◌, min}
 use mathlib.Core.Path.{◌≡◌}

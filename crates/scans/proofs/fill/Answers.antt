@@ -1,4 +1,4 @@
--- `scans::fill` meets its contract. The loop's invariant: so many m-mers of the window were read. The measure is how many are left.
+-- `scans::fill` meets its contract.
 -- Assumes nothing.
 use Prim.Native.Nat.{◌+◌, ◌-◌}
 use mathlib.Core.Path.{◌≡◌, refl}

@@ -1,4 +1,4 @@
--- `scans::start` meets its contract. The loop's invariant: the word is that of the letters passed. The measure is how many are left.
+-- `scans::start` meets its contract.
 -- Assumes nothing.
 use Prim.Native.Nat.{◌+◌, ◌-◌, ◌<◌}
 use mathlib.Core.Path.{◌≡◌, refl, ap, ◌∙◌}

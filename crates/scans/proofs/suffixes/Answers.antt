@@ -1,5 +1,4 @@
--- `scans::suffixes` meets its contract. The loop's invariant: from i on, each entry of a ring is the least of those from its place on, and the
--- others are as they were. The measure is i.
+-- `scans::suffixes` meets its contract.
 -- Assumes nothing.
 use Prim.Native.Nat.{ℕ, suc, ◌-◌, ◌<◌, min}
 use mathlib.Core.List.{List}

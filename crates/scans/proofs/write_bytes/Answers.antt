@@ -1,5 +1,4 @@
--- `scans::write_bytes` meets its contract. The loop's invariant: each run has read its window i and written the bytes for those before it.
--- The measure is how many windows are left.
+-- `scans::write_bytes` meets its contract.
 -- Assumes nothing.
 use mathlib.Core.Path.{◌∙◌}
 use native.Mathlib.Omega.{arith}

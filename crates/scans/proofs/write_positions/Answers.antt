@@ -1,5 +1,4 @@
--- `scans::write_positions` meets its contract. The loop's invariant: each run has read its window i and written the positions for those before it.
--- The measure is how many windows are left.
+-- `scans::write_positions` meets its contract.
 -- Assumes nothing.
 use mathlib.Core.List.{[], ◌∷◌}
 use mathlib.Core.Path.{◌∙◌}

@@ -1,5 +1,4 @@
--- The proof of the cycle of calls {fill}. The measure is how many letters are left.
--- The loop's invariant: the k-mers under the letters before this one are listed, as `Going` has it. Its measure is how many letters remain.
+-- `shelves::fill`, which calls itself, meets its contract.
 -- Assumes nothing.
 use Prim.Native.Nat.{ℕ, ◌+◌, ◌*◌, ◌<◌}
 use mathlib.Core.Path.{◌≡◌, ap}

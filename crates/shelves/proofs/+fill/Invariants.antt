@@ -1,5 +1,5 @@
--- The proof of the cycle of calls {fill}. The measure is how many letters are left.
--- The loop's invariant: the k-mers under the letters before this one are listed, as `Going` has it. Its measure is how many letters remain.
+-- `shelves::fill`, which calls itself, meets its contract. The measure is how many letters are left.
+-- The invariant of its loop: the k-mers under the letters before this one are listed, as `Going` has it. The measure of the loop: how many of the four letters remain.
 -- Assumes nothing.
 use Prim.Native.Nat.{◌-◌}
 use Rattle.shelves.proofs.Listing.{Going}

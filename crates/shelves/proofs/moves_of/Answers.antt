@@ -1,4 +1,4 @@
--- `shelves::moves_of` meets its contract. The loop's invariant: the entries of the places below c are right. The measure is how many are left.
+-- `shelves::moves_of` meets its contract.
 -- Assumes nothing.
 use Prim.Native.Nat.{◌≤◌}
 use mathlib.Core.Path.{refl}

@@ -1,4 +1,4 @@
--- `shelves::run` meets its contract. The loop's invariant: the first i numbers are written. The measure is how many are left to be written.
+-- `shelves::run` meets its contract.
 -- Assumes nothing.
 use mathlib.Core.Path.{refl}
 use native.Mathlib.Omega.{arith}

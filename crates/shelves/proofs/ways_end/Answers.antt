@@ -1,4 +1,4 @@
--- `shelves::ways_end` meets its contract. The loop's invariant: the ways from the states below `state` are written. The measure is how many are left.
+-- `shelves::ways_end` meets its contract.
 -- Assumes nothing.
 use mathlib.Core.Path.{◌≡◌}
 use native.Mathlib.Omega.{arith}

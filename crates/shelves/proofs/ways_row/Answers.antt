@@ -1,4 +1,4 @@
--- `shelves::ways_row` meets its contract. The loop's invariant: the ways from the states below `state` are written. The measure is how many are left.
+-- `shelves::ways_row` meets its contract.
 -- Assumes nothing.
 use Prim.Native.Nat.{◌+◌, ◌*◌, ◌<◌}
 use mathlib.Core.Path.{◌≡◌}

@@ -1,4 +1,4 @@
--- `shelves::ways_table` meets its contract. The loop's invariant: the rows before row `left` are right. The measure is how many are left.
+-- `shelves::ways_table` meets its contract.
 -- Assumes nothing.
 use Prim.Native.Nat.{◌+◌}
 use mathlib.Core.Path.{◌≡◌}

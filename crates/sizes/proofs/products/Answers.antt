@@ -1,5 +1,4 @@
--- `sizes::products` meets its contract. The loop's invariant: the sum is that over the first a rows. A part of it is at most the whole,
--- which is at most 4^31. The measure is how many rows are left.
+-- `sizes::products` meets its contract.
 -- Assumes nothing.
 use Prim.Native.Nat.{ℕ, zero, suc, ◌+◌, ◌-◌, ◌*◌, ◌^◌, ◌≤◌}
 use mathlib.Core.Bool.{Bool, true, false}

@@ -1,5 +1,4 @@
--- `states::link_states` meets its contract. The loop's invariant: the rows of the states below i are written, `fall` is the state that state i
--- falls to, and the special alphabets are as they were. The measure is how many states are left.
+-- `states::link_states` meets its contract.
 -- Assumes nothing.
 use mathlib.Core.Path.{refl}
 use native.Mathlib.Numerals.{add-one}

@@ -1,5 +1,4 @@
--- `states::special_alphabets` meets its contract. The loop's invariant: the first p rows of both tables are written, and no state is linked. The
--- measure is how many letters are left.
+-- `states::special_alphabets` meets its contract.
 -- Assumes nothing.
 use Prim.Native.Nat.{ℕ, suc, ◌+◌, ◌-◌, ◌*◌, ◌≤◌, ◌<◌}
 use mathlib.Core.List.{List, [], ◌∷◌, map}

@@ -1,5 +1,4 @@
--- `vigemins::least_mer` meets its contract. The loop's invariant: of the first p m-mers the least is held, with its value and its position.
--- The measure is how many m-mers are left.
+-- `vigemins::least_mer` meets its contract.
 -- Assumes nothing.
 use Prim.Native.Nat.{ℕ, suc, ◌+◌, ◌-◌, ◌*◌, ◌/◌, ◌^◌, ◌≤◌, ◌<◌}
 use mathlib.Core.Bool.{Bool, true, false, cond}

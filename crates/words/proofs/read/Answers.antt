@@ -1,5 +1,4 @@
--- `words::read` meets its contract. The loop's invariant: the word is the number of the letters passed. The measure is what is left of the
--- length.
+-- `words::read` meets its contract.
 -- Assumes nothing.
 use Prim.Native.Nat.{ℕ, suc, ◌+◌, ◌*◌, ◌^◌, ◌<◌}
 use mathlib.Core.List.{List}

@@ -1,5 +1,4 @@
--- `words::write` meets its contract. The loop's invariant: the first i entries of the room are written. The measure is how many letters are
--- left.
+-- `words::write` meets its contract.
 -- Assumes nothing.
 use Prim.Native.Nat.{ℕ, suc, ◌+◌, ◌-◌, ◌*◌, ◌/◌, ◌%◌, ◌^◌, ◌≤◌}
 use mathlib.Core.List.{List}

@@ -1,4 +1,4 @@
--- `worksheets::allowed_letters` meets its contract. The loop's invariant: the entries below c are written. The measure is how many are left.
+-- `worksheets::allowed_letters` meets its contract.
 -- Assumes nothing.
 use Prim.Native.Nat.{◌+◌}
 use mathlib.Core.Path.{◌≡◌, refl}

@@ -1,5 +1,4 @@
--- `worksheets::caught` meets its contract. The loop's invariant: the thread is caught in w exactly if, with the first j letters of w tied too,
--- it is caught in the rest of w. The measure is how many letters of the thread are left.
+-- `worksheets::caught` meets its contract.
 -- Assumes nothing.
 use Prim.Native.Nat.{ℕ, suc, ◌+◌, ◌<◌}
 use mathlib.Core.Bool.{Bool, true, false, cond, ◌&&◌, ◌||◌, or-false}

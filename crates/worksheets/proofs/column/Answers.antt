@@ -1,5 +1,4 @@
--- `worksheets::column` meets its contract. The loop's invariant: the ways are those by `done` letters, so many rows and one are written, and the table
--- of allowed letters is that for the letters left in the next one. The measure is how many rows are left.
+-- `worksheets::column` meets its contract.
 -- Assumes nothing.
 use Prim.Native.Nat.{◌+◌, ◌<◌}
 use native.Mathlib.Omega.{arith}

@@ -1,5 +1,4 @@
--- `worksheets::ends` meets its contract. The loop's invariant: the ways to end at the states below i, which is at most `live`, are written, the
--- others are 0, and `fall` is the state that i falls to. The measure is how many states below `live` are left.
+-- `worksheets::ends` meets its contract.
 -- Assumes nothing.
 use Prim.Native.Nat.{ℕ, zero, suc, ◌+◌, ◌≤◌, ◌<◌}
 use mathlib.Core.Bool.{Bool, true, false, not, cond, ◌&&◌}

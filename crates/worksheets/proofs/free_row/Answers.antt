@@ -1,4 +1,4 @@
--- `worksheets::free_row` meets its contract. The loop's invariant: the entries below i are written. The measure is how many are left.
+-- `worksheets::free_row` meets its contract.
 -- Assumes nothing.
 use Prim.Native.Nat.{◌+◌, ◌<◌}
 use mathlib.Core.Path.{◌≡◌, refl}

@@ -1,5 +1,4 @@
--- `worksheets::lasts` meets its contract. The loop's invariant: the rows are those in which the first j letters of w are allowed. The measure
--- is how many letters are left.
+-- `worksheets::lasts` meets its contract.
 -- Assumes nothing.
 use Prim.Native.Nat.{ℕ, ◌+◌, ◌-◌, ◌<◌, min}
 use mathlib.Core.List.{List}

@@ -1,5 +1,4 @@
--- `worksheets::reach` meets its contract. The loop's invariant: i is a state below m. Where w's own letter is banned there, its ban is at most
--- all of w. The measure is how many states are left.
+-- `worksheets::reach` meets its contract.
 -- Assumes nothing.
 use Prim.Native.Nat.{ℕ, ◌+◌, ◌-◌, ◌<◌}
 use mathlib.Core.List.{List}

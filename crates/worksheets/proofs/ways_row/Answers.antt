@@ -1,4 +1,4 @@
--- `worksheets::ways_row` meets its contract. The loop's invariant: the entries from i to below hi are written. The measure is how many are left.
+-- `worksheets::ways_row` meets its contract.
 -- Assumes nothing.
 use Prim.Native.Nat.{ℕ, suc, ◌+◌, ◌-◌, ◌≤◌, ◌<◌}
 use mathlib.Core.List.{List}
