@@ -11,7 +11,7 @@
 --   val, word n     a word's number in base four, first letter highest; the word of n letters that has a number
 --   bytes n         a number as n bytes, high first
 --   sum, ⊕          the XOR of two letters; of two words, letter by letter
---   letter_of        the letter that a byte is read as; is_letter_byte, whether it is one
+--   letter_of       the letter that a byte is read as; is_letter_byte, whether it is one
 --   spelled, text   the word that a text spells; a word's text, in capitals
 -- Vigemins      the m-mer v of a k-mer with the least v⊕key, the leftmost of equals
 --   Form, keyed     what a word is turned into before words are compared; under a key, v⊕key
@@ -32,13 +32,13 @@
 --               vigemin_outcome, size_outcome, worksheet_outcome, counter_outcome, page_outcome, scan_outcome, scan_bytes_outcome,
 --               foreign_size_outcome, foreign_scan_outcome
 -- Cards         the shelf printer: the line that it reads, and the text that it prints
---   parts, line_of   the three texts of an input, cut at spaces and a line feed; the line of three texts
---   well_formed      the input is the line of its parts: k, and a key and a word equally long
+--   parts, line_of  the three texts of an input, cut at spaces and a line feed; the line of three texts
+--   well_formed     the input is the line of its parts: k, and a key and a word equally long
 --   asks            what a line asks for: k, m, and the numbers of the key and the word
 --   decimal         a number's digits; settings and entries, the lines that are printed
 --   read_outcome, card_outcome
 -- Cases         W1 to W12 of document 01, proved under one claim; then cases of what these do not ask
---   printed_row      Lemma 8 of source 000 as printed, for W3
+--   printed_row     Lemma 8 of source 000 as printed, for W3
 pub mod Lists
 pub mod Words
 pub mod Vigemins

@@ -1,5 +1,6 @@
--- What each operation may answer: its contract as it stands in the source, at plain arguments. `Lent` is a slice that is lent, `LentRoom` a room, and `now` of either
--- is what it holds; `last` is what a lent room holds when the operation has ended. κs is how long slices are lent, which no contract asks.
+-- What each operation may answer: its contract as it stands in the source, at plain arguments. `Lent` is a slice that is lent, `LentRoom` a
+-- room, and `now` of either is what it holds; `last` is what a lent room holds when the operation has ended. κs is how long slices are lent,
+-- which no contract asks.
 -- Assumes nothing.
 use Rattle.std.specs.Prelude.{ℕ, List}
 use borrow.Fn.Kinds.{ResultKind, res_t}
