@@ -1,7 +1,7 @@
 -- The number of each refusal (document 01, "Numbers of refusal"), the place beside it, and what they tell.
 -- Assumes nothing.
-use Rattle.std.specs.Prelude.{ℕ, zero, suc, ◌<◌, Bool, true, false, cond, not, Result, Ok, Err, List, [], ◌∷◌, ◌≡◌, refl, eqb}
-use Rattle.std.proofs.Common.{sym, ap, ap₂, ◌∙◌, arith, eq-eqb}
+use Rattle.std.specs.Prelude.{ℕ, zero, suc, ◌≤◌, ◌<◌, Bool, true, false, cond, not, Result, Ok, Err, List, [], ◌∷◌, ◌≡◌, refl, eqb, leb}
+use Rattle.std.proofs.Common.{sym, ap, ap₂, ◌∙◌, arith, eq-eqb, leb-true}
 use Rattle.definitions.specs.Lists.{all}
 use Rattle.definitions.specs.Refusals.{Ground, refusal}
 use Rattle.laws.specs.Tests.{contrary, and_l, and_r}
@@ -47,7 +47,7 @@ place_in (Err r) = place_of r
 -- ---- number and place tell the refusal
 
 -- the refusal of a number and a place
-refusal_of : ℕ → ℕ → Refusal
+abbrev pub refusal_of : ℕ → ℕ → Refusal
 refusal_of (suc zero) _ = K
 refusal_of (suc (suc zero)) _ = M
 refusal_of (suc (suc (suc zero))) _ = Key
@@ -61,7 +61,6 @@ refusal_of _ _ = Line
 
 -- it is the refusal that has them
 refusal_of-number : (r : Refusal) → refusal_of (number_of r) (place_of r) ≡ r
-unfolding refusal_of
 refusal_of-number K = refl
 refusal_of-number M = refl
 refusal_of-number Key = refl
@@ -151,3 +150,37 @@ module _ {A Outcome : Type 0} (view : Result A Refusal → Outcome) (number : Ou
 -- two answers with no value beside the refusal, by grounds without 6, are one
 pub same-refused : (gs : List Ground) → lacks 5 gs ≡ true → (a b : Result Unit Refusal) → refusal_in a ≡ refusal gs → refusal_in b ≡ refusal gs → a ≡ b
 same-refused gs free a b p q = same-placeless refusal_in (λ n. n) (λ n. tt) (λ r. refl) (λ u. refl) gs free refl a b p q
+
+-- ---- from an outcome to an answer
+
+-- the answer by a number of refusal: a refusal with no place, or where the number is 0 a value
+abbrev pub given : {A : Type 0} → ℕ → A → Result A Refusal
+given zero x = Ok x
+given (suc n) x = Err (refusal_of (suc n) 0)
+
+-- up to 10 it has that number
+pub number-given : {A : Type 0} (n : ℕ) (x : A) → n ≤ 10 → refusal_in (given n x) ≡ n
+number-given zero x h = refl
+number-given (suc zero) x h = refl
+number-given (suc (suc zero)) x h = refl
+number-given (suc (suc (suc zero))) x h = refl
+number-given (suc (suc (suc (suc zero)))) x h = refl
+number-given (suc (suc (suc (suc (suc zero))))) x h = refl
+number-given (suc (suc (suc (suc (suc (suc zero)))))) x h = refl
+number-given (suc (suc (suc (suc (suc (suc (suc zero))))))) x h = refl
+number-given (suc (suc (suc (suc (suc (suc (suc (suc zero)))))))) x h = refl
+number-given (suc (suc (suc (suc (suc (suc (suc (suc (suc zero))))))))) x h = refl
+number-given (suc (suc (suc (suc (suc (suc (suc (suc (suc (suc zero)))))))))) x h = refl
+number-given (suc (suc (suc (suc (suc (suc (suc (suc (suc (suc (suc n))))))))))) x h = absurd (omega arith)
+
+-- grounds with no number above 10 give none
+pub refusal-most : (gs : List Ground) → all (λ g. leb g.number 10) gs ≡ true → refusal gs ≤ 10
+refusal-most [] h = omega arith
+refusal-most (g ∷ gs) h = go g.met (leb-true g.number 10 (and_l (leb g.number 10) rest h)) (refusal-most gs (and_r (leb g.number 10) rest h))
+  where
+    rest : Bool
+    rest = all (λ f. leb f.number 10) gs
+
+    go : (t : Bool) → g.number ≤ 10 → refusal gs ≤ 10 → cond t g.number (refusal gs) ≤ 10
+    go true a b = a
+    go false a b = b
