@@ -104,9 +104,16 @@ for path in sources:
     triples += [f"{path.relative_to(folder)}: {', '.join(t)}, {len(f)} functions" for t, f in sorted(count.items()) if len(f) >= 3]
 told("three parameters that travel together through three functions or more", triples)
 
-print("6. Buffers with a length beside, fixed arrays for lists")
-told("a field or parameter that is an array of fixed length", lines(r"(\w+: (&('\w+ )?(mut )?)?|type \w+ = )\[\w+; \w+\](,|;|\)|$)"))
+print("6. Buffers with a length beside, parallel arrays, fixed arrays for lists")
+parallel = []
+for path, text in sources.items():
+    for m in re.finditer(r"\bstruct (\w+)(?:<[^>]*>)? \{\n((?:[^}]*\n)?)\}", text):
+        lengths = re.findall(r": \[\w+; (\w+)\]", m.group(2))
+        if len(lengths) > len(set(lengths)):
+            parallel.append(f"{path.relative_to(folder)}: {m.group(1)}")
+told("a struct with two arrays of one length or more", parallel)
 told("a length beside an array", lines(r"^\s+(pub )?length: usize,$"))
+told("a name for an array of fixed length", lines(r"^(pub )?type \w+ = \[\w+; \w+\];"))
 
 print("7. A switch on which step to run")
 told("a match on a number that names the step", lines(r"^\s*match n \{$"))
