@@ -23,7 +23,7 @@ use Rattle.laws.specs.Orders.{Ranking, key_ranking, keyed-law}
 use Rattle.laws.specs.Prefixes.{sharing, sharing_from, sharing-all, sharing-split, sharing-short, sharing-past}
 use Rattle.laws.specs.Rules.{is_equal, own, R, Σ, banned, restrained, T, by_prefix}
 use Rattle.laws.proofs.Antemers.{antemers-full, antemers-whole, antemers-banned, antemers-rule, antemers-none-shared}
-use Rattle.counters.specs.Settings.{SetTo, Served}
+use Rattle.counters.specs.Settings.{SetTo}
 
 -- a count of words of at most ten letters is at most 4^10
 pub from-small : (w : Word) (p : Word → Bool) (i n : ℕ) → n ≤ 10 → sharing_from w p i n ≤ 4 ^ 10

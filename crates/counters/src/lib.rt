@@ -8,11 +8,8 @@
 ghost use Rattle.std.specs.Prelude.{◌≡◌, true, ◌+◌, ◌-◌, ◌≤◌, ◌<◌, length, take};
 ghost use Rattle.std.specs.Ordering.{is_eq, is_gt};
 ghost use Rattle.definitions.specs.Lists.{filter};
-ghost use Rattle.definitions.specs.Words.{letters, word as word_of};
-ghost use Rattle.definitions.specs.Vigemins.{keyed};
-ghost use Rattle.definitions.specs.Shelves.{antemer};
+ghost use Rattle.definitions.specs.Words.{letters};
 ghost use Rattle.definitions.specs.Outcomes.{counter_outcome};
-ghost use Rattle.laws.specs.Orders.{key_ranking};
 ghost use Rattle.laws.specs.Prefixes.{sharing, sharing_from};
 ghost use Rattle.laws.specs.Rules.{own, R, Σ, banned as bannedBy, restrained as mayFollow, T};
 ghost use Rattle.powers.specs.Signs.{signed};
@@ -32,11 +29,13 @@ struct Setting {
 }
 
 impl Setting {
+    ghost use Rattle.counters.specs.Readings.{ranking, own_word, is_antemer};
+
     // R(i,j): the sign of aj..ai against the word's first letters, as many, both combined with the key's first ones. With j = i + 1 there are no
     // letters, which are equal.
     fn compared(self, i: u64, j: u64) -> Ordering
         requires { (0 < j) × (j ≤ i + 1) × (i ≤ self.m) }
-        ensures { result ≡ signed (R (key_ranking (word_of self.m self.key)) (word_of self.m self.word) i j) }
+        ensures { result ≡ signed (R (ranking self) (own_word self) i j) }
     {
         let length = i + 1 - j;
         let stretch = (self.word >> (2 * (self.m - i))) % powers::power(length);
@@ -49,8 +48,8 @@ impl Setting {
     // The sign of a letter against ai, both combined with ci: above where it lies in the special alphabet Σi, equal where it is ai.
     fn letter_sign(self, i: u64, letter: u64) -> Ordering
         requires { (0 < i) × (i ≤ self.m) × (letter < 4) }
-        ensures special { is_gt result ≡ Σ (key_ranking (word_of self.m self.key)) (word_of self.m self.word) i letter }
-        ensures same { is_eq result ≡ own (word_of self.m self.word) i letter }
+        ensures special { is_gt result ≡ Σ (ranking self) (own_word self) i letter }
+        ensures same { is_eq result ≡ own (own_word self) i letter }
     {
         let shift = 2 * (self.m - i);
         let own = (self.word >> shift) % 4;
@@ -60,7 +59,7 @@ impl Setting {
 
     // How many letters Σ1 has: ranks go from 0 to 3, and so many lie above the rank of a1, which is its sum with c1.
     fn first_alphabet(self) -> u64
-        ensures { result ≡ length (filter (Σ (key_ranking (word_of self.m self.key)) (word_of self.m self.word) 1) letters) }
+        ensures { result ≡ length (filter (Σ (ranking self) (own_word self) 1) letters) }
     {
         let shift = 2 * (self.m - 1);
         3 - ((self.word ^ self.key) >> shift)
@@ -69,7 +68,7 @@ impl Setting {
     // Whether some R(i,j) with 2 ≤ j ≤ i is below.
     fn below_at(self, i: u64) -> bool
         requires { (0 < i) × (i ≤ self.m) }
-        ensures { result ≡ is_below_at (key_ranking (word_of self.m self.key)) (word_of self.m self.word) (i - 1) }
+        ensures { result ≡ is_below_at (ranking self) (own_word self) (i - 1) }
     {
         (2..i + 1).any(|j| self.compared(i, j).is_lt())
     }
@@ -77,7 +76,7 @@ impl Setting {
     // Whether i shared letters ban an antemer: some R(i',j) with 2 ≤ j ≤ i' ≤ i is below.
     fn banned(self, i: u64) -> bool
         requires { i ≤ self.m }
-        ensures { result ≡ bannedBy (key_ranking (word_of self.m self.key)) (word_of self.m self.word) (λ j. true) i }
+        ensures { result ≡ bannedBy (ranking self) (own_word self) (λ j. true) i }
     {
         (1..i + 1).any(|shared| self.below_at(shared))
     }
@@ -85,7 +84,7 @@ impl Setting {
     // Whether a letter may not follow i shared ones, by j: R(i,j) is equal, and the letter neither lies in Σ(i-j+2) nor is a(i-j+2).
     fn hinders(self, i: u64, j: u64, letter: u64) -> bool
         requires { (2 ≤ j) × (j ≤ i + 1) × (i < self.m) × (letter < 4) }
-        ensures { result ≡ is_hindered (key_ranking (word_of self.m self.key)) (word_of self.m self.word) i j letter }
+        ensures { result ≡ is_hindered (ranking self) (own_word self) i j letter }
     {
         self.compared(i, j).is_eq() && self.letter_sign(i + 2 - j, letter).is_lt()
     }
@@ -94,7 +93,7 @@ impl Setting {
     // a(i-j+2). With j = i + 1 that is Σ1 and a1.
     fn may_follow(self, i: u64, letter: u64) -> bool
         requires { (i < self.m) × (letter < 4) }
-        ensures { result ≡ mayFollow (key_ranking (word_of self.m self.key)) (word_of self.m self.word) (λ j. true) i letter }
+        ensures { result ≡ mayFollow (ranking self) (own_word self) (λ j. true) i letter }
     {
         self.letter_sign(i + 1, letter).is_gt() && !(2..i + 2).any(|j| self.hinders(i, j, letter))
     }
@@ -102,7 +101,7 @@ impl Setting {
     // Whether the longest prefix is shared again from j on: R(i,j) is equal, and a(i-j+2) is the letter.
     fn ties(self, i: u64, j: u64, letter: u64) -> bool
         requires { (2 ≤ j) × (j ≤ i + 1) × (i < self.m) × (letter < 4) }
-        ensures { result ≡ is_tied (key_ranking (word_of self.m self.key)) (word_of self.m self.word) i j letter }
+        ensures { result ≡ is_tied (ranking self) (own_word self) i j letter }
     {
         self.compared(i, j).is_eq() && self.letter_sign(i + 2 - j, letter).is_eq()
     }
@@ -110,7 +109,7 @@ impl Setting {
     // T: the least j from 2 to i + 1 that ties the letter; i + 2 where there is none.
     fn least_tied(self, i: u64, letter: u64) -> u64
         requires { (i < self.m) × (letter < 4) }
-        ensures { result ≡ T (key_ranking (word_of self.m self.key)) (word_of self.m self.word) (λ j. true) i letter }
+        ensures { result ≡ T (ranking self) (own_word self) (λ j. true) i letter }
     {
         (2..i + 2)
             .find(|&j| self.ties(i, j, letter))
@@ -121,7 +120,7 @@ impl Setting {
     fn whole(self, i: u64) -> bool
         requires served { Served self.m i }
         requires in_range { i ≤ self.m }
-        ensures { result ≡ antemer (keyed (word_of self.m self.key)) (word_of self.m self.word) (take i (word_of self.m self.word)) }
+        ensures { result ≡ is_antemer self (take i (own_word self)) }
     {
         let side = powers::power(self.m);
         let followed = (self.word >> (2 * (self.m - i))) * side + self.word;
@@ -133,7 +132,7 @@ impl Setting {
     #[cycle(all_prefixes_one_prefix)]
     fn all_prefixes(self, i: u64, n: u64) -> u64
         requires { Served self.m n }
-        ensures { result ≡ sharing_from (word_of self.m self.word) (antemer (keyed (word_of self.m self.key)) (word_of self.m self.word)) i n }
+        ensures { result ≡ sharing_from (own_word self) (is_antemer self) i n }
     {
         let mut sum = 0;
         for shared in i..self.m.min(n) + 1 {
@@ -147,7 +146,7 @@ impl Setting {
     fn one_prefix(self, i: u64, n: u64) -> u64
         requires served { Served self.m n }
         requires in_range { (i ≤ self.m) × (i ≤ n) }
-        ensures { result ≡ sharing (word_of self.m self.word) (antemer (keyed (word_of self.m self.key)) (word_of self.m self.word)) i n }
+        ensures { result ≡ sharing (own_word self) (is_antemer self) i n }
     {
         if i == self.m || self.banned(i) {
             return 0;

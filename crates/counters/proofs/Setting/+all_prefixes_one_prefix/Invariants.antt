@@ -3,10 +3,7 @@
 -- The loop of `all_prefixes` sums up over the shared lengths, and that of `one_prefix` over the letters that may follow.
 -- Assumes nothing.
 use Prim.Native.Nat.{◌+◌, ◌*◌}
-use Rattle.definitions.specs.Words.{word as word_of}
-use Rattle.definitions.specs.Vigemins.{keyed}
-use Rattle.definitions.specs.Shelves.{antemer}
-use Rattle.laws.specs.Orders.{key_ranking}
+use Rattle.counters.specs.Readings.{ranking, own_word, is_antemer}
 use Rattle.counters.proofs.Counts.{Summed, Gathered}
 use Rattle.counters.proofs.Setting.+all_prefixes_one_prefix.Given as goal
 
@@ -18,8 +15,8 @@ decreases-one_prefix l = 2 * l.n
 
 abbrev pub invariant-all_prefixes-loop-shared : goal.invariant-all_prefixes-loop-shared
 invariant-all_prefixes-loop-shared l =
-    Summed (word_of l.self.m l.self.word) (antemer (keyed (word_of l.self.m l.self.key)) (word_of l.self.m l.self.word)) l.i l.n l.sum l.shared
+    Summed (own_word l.self) (is_antemer l.self) l.i l.n l.sum l.shared
 
 abbrev pub invariant-one_prefix-loop-letter : goal.invariant-one_prefix-loop-letter
 invariant-one_prefix-loop-letter l =
-    Gathered (key_ranking (word_of l.self.m l.self.key)) (word_of l.self.m l.self.word) (antemer (keyed (word_of l.self.m l.self.key)) (word_of l.self.m l.self.word)) l.i l.n l.sum l.letter
+    Gathered (ranking l.self) (own_word l.self) (is_antemer l.self) l.i l.n l.sum l.letter

@@ -1,8 +1,7 @@
 -- `counters::Setting::below_at` meets its contract.
 -- Assumes nothing.
 use Rattle.std.proofs.Common.{rules, arith, ◌+◌, ◌-◌}
-use Rattle.definitions.specs.Words.{word as word_of}
-use Rattle.laws.specs.Orders.{key_ranking}
+use Rattle.counters.specs.Readings.{ranking, own_word}
 use Rattle.counters.specs.Settings.{low_at}
 use Rattle.counters.proofs.Searches.{any-searched}
 use Rattle.counters.proofs.Tests.{low-tested}
@@ -11,5 +10,5 @@ use Rattle.counters.proofs.Setting.below_at.Goals as goal
 pub returns : goal.returns
 returns c =
     let s = c.args.self in
-    any-searched {n = c.args.i - 1} (λ k. k + 2) (λ k. omega arith) (omega arith) (low_at (key_ranking (word_of s.m s.key)) (word_of s.m s.word) (c.args.i - 1))
+    any-searched {n = c.args.i - 1} (λ k. k + 2) (λ k. omega arith) (omega arith) (low_at (ranking s) (own_word s) (c.args.i - 1))
     (λ a r f k. search rules) c.any.result (λ k l t e. search (rules, low-tested)) c.any.ensures.runs
