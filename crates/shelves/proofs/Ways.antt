@@ -71,41 +71,41 @@ met-bit s h = go (leb 32 s) refl
 
 -- ---- the ways from a state
 
-module _ {left state : ℕ} {moves ban ways : List ℕ} (q : Ready left state moves ban ways) where
+module _ {m left state : ℕ} {moves ban ways : List ℕ} (t : Tables m moves ban) (q : Ready m left state moves ban ways) where
   -- its entries stand in the table of moves
   pub place-lt : (b : ℕ) → b < 4 → 4 * state + b < 256
-  place-lt b h = let low : state < 64 = live-lt q.tables.few q.live in omega arith
+  place-lt b h = let low : state < 64 = live-lt t.few q.live in omega arith
 
   -- a letter leads to a state
-  next-live : (b : ℕ) → b < 4 → Live q.m (leads moves state b)
-  next-live b h = q.tables.lead state b q.live h
+  next-live : (b : ℕ) → b < 4 → Live m (leads moves state b)
+  next-live b h = t.lead state b q.live h
 
   -- its ways stand in the table of ways
   pub way-lt : (b : ℕ) → b < 4 → 64 * (left - 1) + leads moves state b < 2048
-  way-lt b h = let low : leads moves state b < 64 = live-lt q.tables.few (next-live b h) in omega (arith, q.few)
+  way-lt b h = let low : leads moves state b < 64 = live-lt t.few (next-live b h) in omega (arith, q.few)
 
   -- they are the ways under the letter, where it is allowed
   pub under-allowed : {b : ℕ} → b < 4 → left < get_or ban ((4 * state + b) % 128) 0 → get_or ways (64 * (left - 1) + leads moves state b) 0 ≡ ways_below moves ban state (left - 1) b
   under-allowed {b} h k =
       q.known.right (left - 1) (leads moves state b) (omega (arith, q.some)) (next-live b h)
-      ∙ ap (λ (t : Bool). cond t (ways_from moves ban (leads moves state b) (left - 1)) 0)
+      ∙ ap (λ (c : Bool). cond c (ways_from moves ban (leads moves state b) (left - 1)) 0)
       (sym (lt-ltb (suc (left - 1)) (get_or ban ((4 * state + b) % 128) 0) (omega (arith, q.some))))
 
   -- under a banned letter there are none
   pub under-banned : (b : ℕ) → get_or ban ((4 * state + b) % 128) 0 ≤ left → 0 ≡ ways_below moves ban state (left - 1) b
   under-banned b k =
-      ap (λ (t : Bool). cond t (ways_from moves ban (leads moves state b) (left - 1)) 0)
+      ap (λ (c : Bool). cond c (ways_from moves ban (leads moves state b) (left - 1)) 0)
       (sym (le-ltb (suc (left - 1)) (get_or ban ((4 * state + b) % 128) 0) (omega (arith, q.some))))
 
   -- the ways under the four letters are all, and few enough
-  pub four-ways : {a c g t : ℕ} → a ≡ ways_below moves ban state (left - 1) 0 → c ≡ ways_below moves ban state (left - 1) 1
-      → g ≡ ways_below moves ban state (left - 1) 2 → t ≡ ways_below moves ban state (left - 1) 3
-      → (a + c + g + t ≡ ways_from moves ban state left) × (a + c + g + t ≤ 4 ^ 31)
-  four-ways {a} {c} {g} {t} ea ec eg et =
+  pub four-ways : {a c g u : ℕ} → a ≡ ways_below moves ban state (left - 1) 0 → c ≡ ways_below moves ban state (left - 1) 1
+      → g ≡ ways_below moves ban state (left - 1) 2 → u ≡ ways_below moves ban state (left - 1) 3
+      → (a + c + g + u ≡ ways_from moves ban state left) × (a + c + g + u ≤ 4 ^ 31)
+  four-ways {a} {c} {g} {u} ea ec eg et =
       let whole : suc (left - 1) ≡ left = omega (arith, q.some) in
-      let sum : a + c + g + t ≡ ways_from moves ban state (suc (left - 1)) = omega (arith, ea, ec, eg, et) in
+      let sum : a + c + g + u ≡ ways_from moves ban state (suc (left - 1)) = omega (arith, ea, ec, eg, et) in
       let most : 4 ^ left ≤ 4 ^ 31 = pow-le-pow_right four-pos q.few in
-      let is : a + c + g + t ≡ ways_from moves ban state left = sum ∙ ap (ways_from moves ban state) whole in
+      let is : a + c + g + u ≡ ways_from moves ban state left = sum ∙ ap (ways_from moves ban state) whole in
       (is, omega (arith, is, most, ways-le (allowed ban) (leads moves) met state left))
 
 -- ---- the rows of the table of ways
@@ -120,14 +120,12 @@ rows-kept f k s h =
     }
 
 -- a row that is written up to a state
-module _ {lo hi left state : ℕ} {moves ban old ways : List ℕ} (q : RowReady lo hi left moves ban old) (s : Written lo state (64 * left) (λ t. ways_from moves ban t left) old ways) (h : lo ≤ state) (k : state < hi) where
+module _ {m lo hi left state : ℕ} {moves ban old ways : List ℕ} (t : Tables m moves ban) (q : RowReady m lo hi left moves ban old) (s : Written lo state (64 * left) (λ i. ways_from moves ban i left) old ways) (h : lo ≤ state) (k : state < hi) where
   -- the ways from the state can be read
-  pub row-ready : Ready left state moves ban ways
+  pub row-ready : Ready m left state moves ban ways
   row-ready =
       record {
-        m = q.m;
-        tables = q.tables;
-        known = rows-kept q.tables.few q.known s (omega arith);
+        known = rows-kept t.few q.known s (omega arith);
         live = q.live state h k;
         some = q.some;
         few = q.few;
@@ -139,7 +137,7 @@ module _ {lo hi left state : ℕ} {moves ban old ways : List ℕ} (q : RowReady 
 
   -- they are written too
   pub row_more : {v : ℕ} → v ≡ ways_from moves ban state left
-      → Written lo (state + 1) (64 * left) (λ t. ways_from moves ban t left) old (set ways (64 * left + state) v)
+      → Written lo (state + 1) (64 * left) (λ i. ways_from moves ban i left) old (set ways (64 * left + state) v)
   row_more e = rw add-one (written-up s (omega (arith, row_inside, s.long, q.known.long)) e refl h)
 
 -- one more state is written in the row of no letter
@@ -161,11 +159,9 @@ row_zero {m} {moves} {ban} {old} {ways} f e s = record { long = s.long ∙ e; ri
 -- the rows before a row are right
 module _ {m left : ℕ} {moves ban old : List ℕ} (t : Tables m moves ban) (k : WaysTo m left moves ban old) (some : 0 < left) (few : left ≤ 31) where
   -- it can be written where the word was not met
-  pub unmet-ready : RowReady 0 m left moves ban old
+  pub unmet-ready : RowReady m 0 m left moves ban old
   unmet-ready =
       record {
-        m = m;
-        tables = t;
         known = k;
         live = λ s l u. inl u;
         ordered = omega arith;
@@ -176,11 +172,9 @@ module _ {m left : ℕ} {moves ban old : List ℕ} (t : Tables m moves ban) (k :
 
   module _ {between : List ℕ} (s : Written 0 m (64 * left) (λ i. ways_from moves ban i left) old between) where
     -- and then where it was
-    pub met-ready : RowReady 32 (33 + m) left moves ban between
+    pub met-ready : RowReady m 32 (33 + m) left moves ban between
     met-ready =
         record {
-          m = m;
-          tables = t;
           known = rows-kept t.few k s (omega arith);
           live = λ i l u. inr (l, omega arith);
           ordered = omega arith;
