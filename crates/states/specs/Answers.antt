@@ -1,6 +1,8 @@
 -- The outcome of preparing the states of a word, and what the code answered as such.
 -- Assumes nothing.
 use Rattle.std.specs.Prelude.{ℕ, zero, suc, List, [], ◌∷◌, ◌≡◌, refl, replicate, take}
+use Rattle.std.specs.declared.cmp.Ordering.{Ordering}
+use Rattle.std.specs.declared.cmp.Ordering.TheVariants.{Less, Equal, Greater}
 use Rattle.std.proofs.Math.Path.{ap}
 use Rattle.std.proofs.Common.{arith}
 use Rattle.definitions.specs.Words.{Word, word as word_of}
@@ -14,22 +16,22 @@ use Rattle.states.specs.Tables.{own_of, mark_at, next_at, ban_at, AlphabetsOf, L
 use Rattle.states.specs.declared.Four as four
 use Rattle.states.specs.declared.Prepared as answer
 
--- the bytes of a row, in the letters' order
-abbrev pub four_of : four.Four → List ℕ
+-- the entries of a row, in the letters' order
+abbrev pub four_of : {E : Type 0} → four.Four E → List E
 four_of r = r.a ∷ r.c ∷ r.g ∷ r.t ∷ []
 
 -- what preparing answers: the refusal and the four tables
 pub record Prepared : Type 0 where
   pub refusal : ℕ
   pub own : List ℕ
-  pub marks : List ℕ
+  pub marks : List Ordering
   pub next : List ℕ
   pub ban : List ℕ
 
 -- its answer under a number of refusal
 unfoldable pub prepare_answer : ℕ → Ranking → Word → Prepared
 prepare_answer zero ρ w = record { refusal = 0; own = own_of w; marks = grid (mark_at ρ w); next = grid (next_at w); ban = grid (ban_at ρ w) }
-prepare_answer (suc r) ρ w = record { refusal = suc r; own = replicate 32 0; marks = replicate 128 0; next = replicate 128 0; ban = replicate 128 0 }
+prepare_answer (suc r) ρ w = record { refusal = suc r; own = replicate 32 0; marks = replicate 128 Less; next = replicate 128 0; ban = replicate 128 0 }
 
 -- the outcome of prepare(k, m, key, word)
 unfoldable pub prepare_outcome : ℕ → ℕ → ℕ → ℕ → Prepared
@@ -38,7 +40,7 @@ prepare_outcome k m key w = prepare_answer (refusal (shelf_grounds k m key w)) (
 
 -- case W3, key TAA and word AAA: at the first place A ranks above C, G and T, and at the others below them; so A leads on, to state 3 at
 -- most, each other letter leads back to state 0, and is banned as soon as three letters are left
-pub prepare-case : (take 16 (prepare_outcome 4 3 48 0).marks ≡ 1 ∷ 0 ∷ 0 ∷ 0 ∷ 1 ∷ 2 ∷ 2 ∷ 2 ∷ 1 ∷ 2 ∷ 2 ∷ 2 ∷ 2 ∷ 2 ∷ 2 ∷ 2 ∷ [])
+pub prepare-case : (take 16 (prepare_outcome 4 3 48 0).marks ≡ Equal ∷ Less ∷ Less ∷ Less ∷ Equal ∷ Greater ∷ Greater ∷ Greater ∷ Equal ∷ Greater ∷ Greater ∷ Greater ∷ Greater ∷ Greater ∷ Greater ∷ Greater ∷ [])
     × (take 16 (prepare_outcome 4 3 48 0).next ≡ 1 ∷ 0 ∷ 0 ∷ 0 ∷ 2 ∷ 0 ∷ 0 ∷ 0 ∷ 3 ∷ 0 ∷ 0 ∷ 0 ∷ 3 ∷ 0 ∷ 0 ∷ 0 ∷ [])
     × (take 16 (prepare_outcome 4 3 48 0).ban ≡ 64 ∷ 3 ∷ 3 ∷ 3 ∷ 64 ∷ 3 ∷ 3 ∷ 3 ∷ 64 ∷ 3 ∷ 3 ∷ 3 ∷ 64 ∷ 3 ∷ 3 ∷ 3 ∷ [])
 unfolding prepare_outcome prepare_answer

@@ -5,6 +5,7 @@ use mathlib.Core.List.{List}
 use mathlib.Core.Path.{◌≡◌, refl, sym, ◌∙◌}
 use native.Mathlib.Omega.{arith}
 use lib.ListN.{replicate}
+use Rattle.std.proofs.Common.{Ordering, Greater}
 use Rattle.definitions.specs.Words.{Word}
 use Rattle.definitions.specs.Refusals.{refusal}
 use Rattle.definitions.specs.Outcomes.{shelf_grounds}
@@ -17,13 +18,13 @@ use Rattle.states.proofs.prepare.Goals.{Else-refusal-ne0}
 
 -- beside a refusal stand zeros
 refused : (r : ℕ) → (r ≡ 0 → ⊥) → (ρ : Ranking) (w : Word)
-    → record { refusal = r; own = replicate 32 0; marks = replicate 128 0; next = replicate 128 0; ban = replicate 128 0 } ≡ prepare_answer r ρ w
+    → record { refusal = r; own = replicate 32 0; marks = replicate 128 Greater; next = replicate 128 0; ban = replicate 128 0 } ≡ prepare_answer r ρ w
 unfolding prepare_answer
 refused zero h ρ w = absurd (h refl)
 refused (suc r) h ρ w = refl
 
 -- beside no refusal stand the tables
-accepted : {ρ : Ranking} {w : Word} {m : ℕ} {own marks next ban : List ℕ} → AlphabetsOf ρ w m own marks → LinksOf ρ w next ban
+accepted : {ρ : Ranking} {w : Word} {m : ℕ} {own next ban : List ℕ} {marks : List Ordering} → AlphabetsOf ρ w m own marks → LinksOf ρ w next ban
     → record { refusal = 0; own = own; marks = marks; next = next; ban = ban } ≡ prepare_answer 0 ρ w
 unfolding prepare_answer
 accepted a l = rw (a.word.owns, a.ranks, l.nexts, l.bans)
