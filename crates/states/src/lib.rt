@@ -13,13 +13,14 @@
 //                       fewest letters more, so the longest tied state at which b ranks below decides
 #![tactic(auto)]
 
-ghost use Rattle.std.specs.Prelude.{◌≡◌, ◌*◌, ◌≤◌, ◌<◌, length};
+ghost use Rattle.std.specs.Prelude.{◌≡◌, ◌*◌, ◌≤◌, ◌<◌};
 ghost use Rattle.std.proofs.lemmas.List.Edits.{sets};
 ghost use Rattle.definitions.specs.Words.{word as word_of};
 ghost use Rattle.laws.specs.Orders.{key_ranking};
 ghost use Rattle.states.specs.Tables.{row_of, entry_by, linked_row, Linking, Known, All, AlphabetsOf, Unlinked, LinksOf};
 ghost use Rattle.states.specs.Answers.{four_of, prepare_outcome, prepared};
 
+use refusals::Refusal;
 use std::cmp::Ordering;
 
 // More letters than are ever left.
@@ -142,32 +143,11 @@ fn link_states(m: u64, mut s: States) -> States
     s
 }
 
-// What preparing answers: the refusal, the states.
-#[derive(Clone, Copy)]
-pub struct Prepared {
-    pub refusal: u64,
-    pub states: States,
-}
-
 // The states of a word under a key. Refusals 1 to 4.
-pub fn prepare(k: u64, m: u64, key: u64, word: u64) -> Prepared
+pub fn prepare(k: u64, m: u64, key: u64, word: u64) -> Result<States, Refusal>
     ensures { prepared result ≡ prepare_outcome k m key word }
 {
-    let refusal = powers::word_refusal(k, m, key, m, word);
-    if refusal != 0 {
-        return Prepared {
-            refusal,
-            states: States {
-                own: [0; 32],
-                marks: [Ordering::Greater; 128],
-                next: [0; 128],
-                ban: [0; 128],
-            },
-        };
-    }
+    powers::word_refusal(k, m, key, m, word)?;
     let unlinked = special_alphabets(m, key, word);
-    Prepared {
-        refusal: 0,
-        states: link_states(m, unlinked),
-    }
+    Ok(link_states(m, unlinked))
 }

@@ -1,7 +1,7 @@
 -- `states::link_states` meets its contract.
 -- Assumes nothing.
-use Rattle.std.proofs.Common.{refl, add-one, arith}
-use Rattle.states.proofs.Below.{alphabets-kept, reached-first, reached-last, reached-more, Going, going}
+use Rattle.std.proofs.Common.{add-one, arith}
+use Rattle.states.proofs.Below.{alphabets-kept, reached-last, reached-more, Going, going}
 use Rattle.states.proofs.link_states.Goals as goal
 use Rattle.states.proofs.link_states.Goals.{In-loop-i}
 
@@ -25,12 +25,12 @@ bounds-s-fall c = let k = known (goal.at.bounds-s-fall c).In-loop-i in omega (ar
 pub link-requires : goal.link-requires
 link-requires c =
     let k = known (goal.at.link-requires c).In-loop-i in
-    record { small = omega (arith, k.few); from = k.low; to = omega (arith, k.few) }
+    record { small = omega (arith, k.few); from = omega (arith, k.low); to = omega (arith, k.few) }
 
 pub link-requires-in-loop-i : goal.link-requires-in-loop-i
 link-requires-in-loop-i c =
     let k = known (goal.at.link-requires-in-loop-i c).In-loop-i in
-    record { small = omega (arith, k.few); from = k.low; to = omega (arith, k.few) }
+    record { small = omega (arith, k.few); from = omega (arith, k.low); to = omega (arith, k.few) }
 
 pub loop-i-preserved : goal.loop-i-preserved
 loop-i-preserved c =

@@ -10,7 +10,7 @@ use Rattle.laws.specs.Numbers.{four-pos, length_digits, digits-below, letter-cut
 use Rattle.laws.specs.Orders.{Ranking, key_ranking, keyed-one-to-one}
 use Rattle.states.specs.Grids.{grid}
 use Rattle.states.specs.Tables.{mark_of, own_of, mark_at}
-use Rattle.states.proofs.Rows.{written, written_all, write-entry, write-row}
+use Rattle.states.proofs.Rows.{written_all, write-entry, write-row}
 use Rattle.states.proofs.special_alphabets.Invariants.{Marked}
 use Rattle.states.proofs.special_alphabets.Goals as goal
 
@@ -44,8 +44,8 @@ loop-p-preserved c =
     let m = c.args.m in
     let whole : suc (at.p + (m - 1 - at.p)) ≡ m = omega arith in
     let row = marks-at m c.args.key c.args.word at.p c.loop-p-test.true (letter-cut m c.args.word at.p (m - 1 - at.p) whole)
-        (letter-cut m c.args.key at.p (m - 1 - at.p) whole) c.cmp.ensures c.cmp-in-loop-p.ensures c.cmp-in-loop-p-2.ensures
-        c.cmp-in-loop-p-3.ensures in
+    (letter-cut m c.args.key at.p (m - 1 - at.p) whole) c.cmp.ensures c.cmp-in-loop-p.ensures c.cmp-in-loop-p-2.ensures
+    c.cmp-in-loop-p-3.ensures in
     (rw add-one (marked_more at.invariant.0 (omega arith) (letter-cut m c.args.word at.p (m - 1 - at.p) whole) row c.put.ensures), at.invariant.1)
 
 pub returns : goal.returns
