@@ -1,25 +1,24 @@
 -- Laws of listing: the k-mers under a beginning, by their next letter, and room into which they are written.
 -- Assumes nothing.
-use Prim.Native.Nat.{ℕ, zero, suc, ◌+◌, ◌-◌, ◌*◌, ◌%◌, ◌^◌, ◌≤◌, ◌<◌, min}
+use Prim.Native.Nat.{ℕ, suc, ◌+◌, ◌-◌, ◌*◌, ◌%◌, ◌^◌, ◌≤◌, ◌<◌, min}
 use mathlib.Core.Bool.{Bool, true, false, cond}
 use mathlib.Core.List.Memᴰ
 use mathlib.Core.List.{List, [], ◌∷◌, ◌++◌, map, map-map, append-nil, Memᴰ}
 use mathlib.Core.Logic.{⊎_elim}
 use mathlib.Core.Path.{◌≡◌, sym, ap, ap₂, fun_ext, ◌∙◌}
-use native.Mathlib.Nat.{sub-zero, add_assoc, suc-mul, add-mul, mul_assoc, mul_left_comm, mul-le-mul_right, pow-succ', pow-le-pow_right, one-le-pow, mod-lt, zero-lt-suc}
+use native.Mathlib.Nat.{add_assoc, suc-mul, add-mul, mul_assoc, mul_left_comm, mul-le-mul_right, pow-succ', pow-le-pow_right, one-le-pow, mod-lt}
 use native.Mathlib.Numerals.{add-one}
 use native.Mathlib.Omega.{arith}
 use lib.ListN.{length, get_or, take, drop, set, length-append, length-take, length-drop, length-map, drop_of_length-le}
 use lib.Pow.{pow-add}
-use lib.Seq.{take-nil, drop-nil, take-suc}
+use lib.Seq.{take-nil, take-suc}
 use Rattle.definitions.specs.Lists.{filter, tabulate, over}
 use Rattle.definitions.specs.Words.{Word, letters, words, val}
 use Rattle.laws.specs.Numbers.{letters-at, four-pos}
 use Rattle.laws.specs.Filters.{filter-full, take-least, part-append, joined, joined-append, map-joined, length-tabulate, tabulate-at, tabulate-agree, drop-tabulate, map-tabulate}
 use Rattle.laws.specs.Counting.{map-agree, filter-words, length-words, words-numbers}
 use Rattle.laws.specs.Walks.{below-cond, accepts, rest, accepts-split, rest-count, ways-count, ways-le}
-use Rattle.laws.specs.Rooms.{over-append, length_over, over_to, length-over_to, over_to-more, rest-whole}
-use Rattle.shelves.proofs.Ways.{live-lt}
+use Rattle.laws.specs.Rooms.{over-append, length_over, over_to, over_to-more, rest-whole}
 use Rattle.shelves.specs.Descents.{allowed, leads, met, ways_from, ways_below, completing, Tables, Ready, numbered, under, Listed, Complete, Reached, AtOnce, Longer}
 
 -- ---- room that is listed into
@@ -30,18 +29,6 @@ listed-front new old {room} {n} e q =
     let size : n ≡ length (take (length old) new) = omega (arith, length-take (length old) new) in
     let part : take n new ≡ take (length old) new = ap (λ (i : ℕ). take i new) e ∙ take-least new (length old) in
     record { count = size; fills = q ∙ ap₂ (λ (u : List ℕ) (i : ℕ). u ++ drop i old) part size }
-
--- no more is written than the room takes
-listed-fits : {from old room : List ℕ} {skip written : ℕ} → Listed from skip old room written → written ≤ length old
-listed-fits {from} {old} {room} {skip} {written} l = omega (arith, l.count, length-take (length old) (drop skip from))
-
--- into no room, nothing is written
-pub listed-full : {new room : List ℕ} {skip : ℕ} → length room ≡ 0 → Listed new skip room room 0
-listed-full e = record { count = rw e; fills = rw e }
-
--- of nothing, nothing is written
-listed-none : (skip : ℕ) (room : List ℕ) → Listed [] skip room room 0
-listed-none skip room = record { count = rw (drop-nil skip, take-nil (length room)); fills = rw (drop-nil skip, take-nil (length room)) }
 
 module _ {from : List ℕ} (more : List ℕ) {old room : List ℕ} {skip written : ℕ} (l : Listed from skip old room written) where
   -- behind what is written of a list, what follows it is written
@@ -78,11 +65,6 @@ pub record Running (first count n : ℕ) (old room : List ℕ) (i : ℕ) : Type 
   pub writes : room ≡ over_to i (tabulate (λ j. first + j) count) old
 
 module _ {first count n : ℕ} {old room : List ℕ} {i : ℕ} (r : Running first count n old room i) where
-  -- the room stays as long
-  pub running-long : length room ≡ length old
-  running-long =
-      length-over_to (tabulate (λ j. first + j) count) old {i = i} r.writes (rw length-tabulate (omega (arith, r.least, r.within))) (omega (arith, r.least, r.within))
-
   -- one more is written
   pub running_more : i < n → {j : ℕ} → j ≡ suc i → Running first count n old (set room i (first + i)) j
   running_more h e =
@@ -190,28 +172,8 @@ pub record Going (moves ban : List ℕ) (left s begun skip : ℕ) (old room : Li
   pub passes : passed ≡ skip - length (before moves ban left s begun letter)
   pub lists : Listed (before moves ban left s begun letter) skip old room written
 
--- no letter was looked at yet
-pub going-first : (moves ban : List ℕ) (left s begun skip : ℕ) (room : List ℕ) → Going moves ban left s begun skip room room skip 0 0
-going-first moves ban left s begun skip room = record { few = omega arith; passes = sym (sub-zero skip); lists = listed-none skip room }
-
 module _ {moves ban : List ℕ} {left s begun skip : ℕ} {old room : List ℕ} {passed written letter : ℕ}
     (g : Going moves ban left s begun skip old room passed written letter) where
-  -- what is written fits into the room
-  pub going-fits : written ≤ length old
-  going-fits = listed-fits g.lists
-
-  -- the room stays as long
-  pub going-long : length room ≡ length old
-  going-long =
-      let new : List ℕ = take (length old) (drop skip (before moves ban left s begun letter)) in
-      ap length g.lists.fills ∙ length_over new old (omega (arith, length-take (length old) (drop skip (before moves ban left s begun letter))))
-
-  -- what is written behind it fits too
-  pub going-room : {after : List ℕ} {n : ℕ}
-      → Listed (under moves ban (left - 1) (leads moves s letter) (4 * begun + letter)) passed (take (length room - written) (drop written room)) after n
-      → written + n ≤ length old
-  going-room l = omega (arith, going-fits, going-long, listed-fits l, length-take (length room - written) (drop written room))
-
   module _ {ways : ℕ} (few : letter < 4) (known : ways ≡ ways_below moves ban s (left - 1) letter) where
     -- those under a letter
     abbrev here : List ℕ
@@ -257,11 +219,6 @@ module _ {moves ban : List ℕ} {left s begun skip : ℕ} {old room : List ℕ} 
   pub going-all : 0 < left → 4 ≤ letter → Listed (under moves ban left s begun) skip old room written
   going-all h k = rw (← before-all moves ban left s begun {b = letter} h (omega (arith, g.few))) g.lists
 
--- what is written at once is listed
-pub listed-once : {from : List ℕ} {skip first count written : ℕ} {old room : List ℕ} → AtOnce from skip first count
-    → Listed (tabulate (λ i. first + i) count) 0 old room written → Listed from skip old room written
-listed-once a l = record { count = rw a.all l.count; fills = rw a.all l.fills }
-
 -- ---- descending
 
 -- the numbers under a beginning stay below 4^31
@@ -283,11 +240,6 @@ begun-low : (left begun b : ℕ) → 0 < left → left ≤ 31 → begun < 4 ^ (3
 begun-low left begun b o h k l =
     let most : 4 ^ (31 - (left - 1)) ≤ 4 ^ 31 = pow-le-pow_right four-pos {j = 31} (omega arith) in
     omega (arith, most, begun-small left begun b o h k l)
-
--- where some way is left, and not all, some letter is left
-some_left : (moves ban : List ℕ) (s left skip : ℕ) → skip < ways_from moves ban s left → (ways_from moves ban s left ≡ 4 ^ left → ⊥) → 0 < left
-some_left moves ban s zero skip h n = absurd (n (omega (arith, ways-le (allowed ban) (leads moves) met s 0)))
-some_left moves ban s (suc left) skip h n = zero-lt-suc left
 
 module _ {k m word left state begun skip : ℕ} {moves ban ways powers : List ℕ} (t : Tables m moves ban) (d : Complete k m word moves ban ways powers)
     (q : Reached k m left state begun skip moves ban) where
@@ -311,14 +263,6 @@ module _ {k m word left state begun skip : ℕ} {moves ban ways powers : List �
   pub count-more : skip < get_or ways (64 * left + state) 0
   count-more = rw count-is q.behind
 
-  -- the state is below 64
-  state-lt : state < 64
-  state-lt = live-lt t.few q.live
-
-  -- the place of the ways is one of the table
-  pub count-inside : 64 * left + state < 2048
-  count-inside = omega (arith, left-few, state-lt)
-
   -- the numbers under the beginning stay below 4^31
   numbers_fit : begun * 4 ^ left + 4 ^ left ≤ 4 ^ 31
   numbers_fit = begun-fits left begun left-few q.small
@@ -326,10 +270,6 @@ module _ {k m word left state begun skip : ℕ} {moves ban ways powers : List �
   -- so does the number with which those that are listed start
   pub start-lt : begun * get_or powers left 0 + skip < 4 ^ 31
   start-lt = rw power-is (omega (arith, numbers_fit, q.behind, ways-le (allowed ban) (leads moves) met state left))
-
-  -- where not every word completes the beginning, some letter is left
-  pub once-none : (get_or ways (64 * left + state) 0 ≡ get_or powers left 0 → ⊥) → 0 < left
-  once-none n = some_left moves ban state left skip q.behind (λ r. n (count-is ∙ r ∙ sym power-is))
 
   -- where every word completes it, its numbers follow one another
   pub once-free : get_or ways (64 * left + state) 0 ≡ get_or powers left 0

@@ -1,6 +1,6 @@
 -- What the functions behind a page ask and give. What is said of a word and a ranking is said of every one that the tables belong to.
 -- Assumes nothing.
-use Rattle.std.specs.Prelude.{ℕ, suc, ◌+◌, ◌-◌, ◌*◌, ◌%◌, ◌^◌, ◌≤◌, ◌<◌, Bool, cond, List, [], ◌∷◌, map, ◌⊎◌, ◌≡◌, ltb, leb, eqb, length, get_or, take, drop}
+use Rattle.std.specs.Prelude.{ℕ, suc, Result, ◌+◌, ◌-◌, ◌*◌, ◌%◌, ◌^◌, ◌≤◌, ◌<◌, Bool, cond, List, [], ◌∷◌, map, ◌⊎◌, ◌≡◌, ltb, leb, eqb, length, get_or, take, drop}
 use Rattle.std.specs.Coded.{le_prop, ×_prop, Π_prop}
 use Rattle.std.proofs.Common.{inl, inr, ap, ap₂, arith}
 use Rattle.definitions.specs.Lists.{filter, tabulate, over}
@@ -12,7 +12,8 @@ use Rattle.laws.specs.Orders.{Ranking, OneToOne, ranked}
 use Rattle.laws.specs.Walks.{accepts, ways, branch}
 use Rattle.powers.specs.Powers.{PowersAre}
 use Rattle.states.specs.Tables.{own_of, LettersOf, LinksOf}
-use Rattle.shelves.specs.Answers.{Answer, paged}
+use Rattle.shelves.specs.Answers.{paged}
+use Rattle.refusals.specs.declared.Refusal.{Refusal}
 
 -- ---- the acceptor that the tables make
 
@@ -80,6 +81,11 @@ Tables-prop m moves ban x y =
 pub record WaysTo (m n : ℕ) (moves ban ways : List ℕ) : Type 0 where
   pub long : length ways ≡ 2048
   pub right : (r s : ℕ) → r < n → Live m s → get_or ways (64 * r + s) 0 ≡ ways_from moves ban s r
+
+-- a table of which the row of no letter is right: one way from each state in which the word was met
+pub record Ended (ways : List ℕ) : Type 0 where
+  pub long : length ways ≡ 2048
+  pub each : (s : ℕ) → s < 64 → get_or ways s 0 ≡ cond (met s) 1 0
 
 -- what reading the ways from a state asks, where so many letters are left: the rows of fewer letters are right
 pub record Ready (m left state : ℕ) (moves ban ways : List ℕ) : Type 0 where
@@ -151,5 +157,5 @@ pub record ShelfOf (ρ : Ranking) (w : Word) (m word : ℕ) (next ban : List ℕ
   pub number : val w ≡ word
 
 -- an answer and the room are those of a page
-abbrev pub PageIs : Ranking → Word → ℕ → ℕ → List ℕ → List ℕ → Answer → Type 0
+abbrev pub PageIs : Ranking → Word → ℕ → ℕ → List ℕ → List ℕ → Result ℕ Refusal → Type 0
 PageIs ρ w k start old room r = paged r room ≡ page_answer (refusal (bad_start (size (ranked ρ) k w) start ∷ [])) (ranked ρ) k w start old

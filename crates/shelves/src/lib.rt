@@ -12,8 +12,11 @@ ghost use Rattle.definitions.specs.Lists.{tabulate};
 ghost use Rattle.definitions.specs.Outcomes.{page_outcome};
 ghost use Rattle.laws.specs.Rooms.{Written};
 ghost use Rattle.states.specs.Tables.{Known, All};
-ghost use Rattle.shelves.specs.Descents.{NextsSmall, MovesOf, leads, met, Tables, Tables-prop, Listed, Complete, AtOnce, ShelfOf, PageIs};
+ghost use Rattle.shelves.specs.Descents.{NextsSmall, MovesOf, leads, Tables, Tables-prop, Listed, Ended, Complete, AtOnce, ShelfOf, PageIs};
 ghost use Rattle.shelves.specs.Answers.{paged};
+
+use refusals::Refusal;
+use states::States;
 
 // What is added to a state where the word was met.
 const MET: u8 = 32;
@@ -33,11 +36,9 @@ fn moves_of(m: u64, next: &[u8; 128]) -> [u8; 256]
     ensures { MovesOf m next.now result }
 {
     let mut moves: [u8; 256] = [0; 256];
-    for c in 0..128 {
-        let to = next[c];
-        let after = to + MET;
-        moves[c] = arrive(m, to);
-        moves[128 + c] = after;
+    for (c, to) in next.iter().enumerate() {
+        moves[c] = arrive(m, *to);
+        moves[128 + c] = *to + MET;
     }
     moves
 }
@@ -127,11 +128,10 @@ impl Acceptor<'_> {
 // Writes the ways where no letter is left: one from each state in which the word was met.
 fn ways_end(ways: &mut [u64; 2048])
     requires { length ways.old ≡ 2048 }
-    ensures { Written 0 64 0 (λ s. cond (met s) 1 0) ways.old ways.new }
+    ensures { Ended ways.new }
 {
-    for state in 0..64 {
-        ways[state as usize] = state / 32;
-    }
+    ways[..32].fill(0);
+    ways[32..64].fill(1);
 }
 
 // Numbers that follow one another: the first, how many.
@@ -222,53 +222,34 @@ impl Descent<'_> {
     }
 }
 
-// What a page answers: the refusal, how many k-mers it wrote.
-#[derive(Clone, Copy)]
-pub struct Paged {
-    pub refusal: u64,
-    pub written: u64,
-}
-
-// The page of a word of m letters, by its next states and bans.
+// The page of a word of m letters, by its states.
 fn page_by(
     k: u64,
     m: u64,
     word: u64,
     start: u64,
-    next: &[u8; 128],
-    ban: &[u8; 128],
+    states: &States,
     room: &mut [u64],
-) -> Paged
-    requires known { Known (λ ρ w. ShelfOf ρ w m word next.now ban.now) }
+) -> Result<u64, Refusal>
+    requires known { Known (λ ρ w. ShelfOf ρ w m word states.now.next states.now.ban) }
     requires in_range { (m ≤ k) × (k ≤ 31) }
-    ensures { All (λ ρ w. ShelfOf ρ w m word next.now ban.now) (λ ρ w. PageIs ρ w k start room.old room.new result) }
+    ensures { All (λ ρ w. ShelfOf ρ w m word states.now.next states.now.ban) (λ ρ w. PageIs ρ w k start room.old room.new result) }
 {
     let acceptor = Acceptor {
         m,
-        moves: moves_of(m, next),
-        ban,
+        moves: moves_of(m, &states.next),
+        ban: &states.ban,
     };
     let mut ways: [u64; 2048] = [0; 2048];
     acceptor.ways_table(k, &mut ways);
     let size = ways[(64 * k) as usize];
     if size < start {
-        return Paged {
-            refusal: 8,
-            written: 0,
-        };
+        return Err(Refusal::Start);
     }
     if size == start {
-        return Paged {
-            refusal: 0,
-            written: 0,
-        };
+        return Ok(0);
     }
     let powers = powers::powers();
-    let empty = Beginning {
-        left: k,
-        state: 0,
-        begun: 0,
-    };
     let descent = Descent {
         k,
         word,
@@ -276,27 +257,27 @@ fn page_by(
         ways: &ways,
         powers: &powers,
     };
+    let empty = Beginning {
+        left: k,
+        state: 0,
+        begun: 0,
+    };
     let written = descent.fill(empty, start, room);
-    Paged {
-        refusal: 0,
-        written: written as u64,
-    }
+    Ok(written as u64)
 }
 
-// Writes the k-mers of a shelf from place `start` on, as many as there are and the room takes, in increasing order of the k-mer itself. Refusals 1 to 4,
-// then 8.
-pub fn page(k: u64, m: u64, key: u64, word: u64, start: u64, room: &mut [u64]) -> Paged
+// Writes the k-mers of a shelf from place `start` on, as many as there are and the room takes, in increasing order of the k-mer itself, and tells how
+// many. Refusals 1 to 4, then 8.
+pub fn page(
+    k: u64,
+    m: u64,
+    key: u64,
+    word: u64,
+    start: u64,
+    room: &mut [u64],
+) -> Result<u64, Refusal>
     ensures { paged result room.new ≡ page_outcome k m key word start room.old }
 {
-    let prepared = states::prepare(k, m, key, word);
-    if prepared.refusal != 0 {
-        return Paged {
-            refusal: prepared.refusal,
-            written: 0,
-        };
-    }
-    let s = prepared.states;
-    let next = s.next;
-    let ban = s.ban;
-    page_by(k, m, word, start, &next, &ban, room)
+    let states = states::prepare(k, m, key, word)?;
+    page_by(k, m, word, start, &states, room)
 }

@@ -1,6 +1,6 @@
 -- `shelves::page_by` meets its contract: the table of ways holds the size, and what is listed under the empty beginning is the page.
 -- Assumes nothing.
-use Rattle.std.proofs.Common.{refl, arith}
+use Rattle.std.proofs.Common.{arith}
 use Rattle.powers.specs.Powers.{powers-are}
 use Rattle.shelves.proofs.Shelf.{nexts-small, tables, size-read, complete, reached, page-refused, page-none, page-listed}
 use Rattle.shelves.proofs.page_by.Goals as goal

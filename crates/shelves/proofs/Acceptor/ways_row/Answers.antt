@@ -2,7 +2,7 @@
 -- Assumes nothing.
 use Rattle.std.proofs.Common.{◌≡◌, arith}
 use Rattle.laws.specs.Rooms.{written_none}
-use Rattle.shelves.proofs.Ways.{row-ready, row_inside, row_more}
+use Rattle.shelves.proofs.Ways.{row-ready, row_more}
 use Rattle.shelves.proofs.Acceptor.ways_row.Goals as goal
 
 pub loop-state-init : goal.loop-state-init

@@ -5,7 +5,7 @@ use Rattle.shelves.proofs.Ways.{row_zero, unmet-ready, met-ready, row-right}
 use Rattle.shelves.proofs.Acceptor.ways_table.Goals as goal
 
 pub loop-left-init : goal.loop-left-init
-loop-left-init c = row_zero c.args.self.now.tables.few c.requires.1 c.ways_end.ensures
+loop-left-init c = row_zero c.args.self.now.tables.few c.ways_end.ensures
 
 pub ways_row-requires : goal.ways_row-requires
 ways_row-requires c =

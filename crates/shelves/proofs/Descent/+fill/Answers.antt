@@ -1,7 +1,7 @@
 -- `Descent::fill`, which calls itself, meets its contract.
 -- Assumes nothing.
-use Rattle.std.proofs.Common.{ℕ, ◌≡◌, ◌+◌, ◌*◌, ◌<◌, ap, arith}
-use Rattle.shelves.proofs.Listing.{listed-once, longer-ready, descend, going-first, going-room, going-into, going-past, going-all}
+use Rattle.std.proofs.Common.{◌≡◌, ◌+◌, ◌*◌, ◌<◌, ap, arith}
+use Rattle.shelves.proofs.Listing.{longer-ready, descend, going-into, going-past, going-all}
 use Rattle.shelves.specs.declared.Beginning.{Beginning}
 use Rattle.shelves.proofs.Descent.+fill.Goals.{then-passed-under, else-passed-under}
 use Rattle.shelves.proofs.Descent.+fill.Goals as goal

@@ -1,7 +1,7 @@
 -- `Descent::at_once` meets its contract: what it reads are the ways and the power.
 -- Assumes nothing.
 use Rattle.std.proofs.Common.{arith}
-use Rattle.shelves.proofs.Listing.{power-some, count-more, count-inside, start-lt, once-none, once-free, rest_lt, once-rest}
+use Rattle.shelves.proofs.Listing.{power-some, start-lt, once-free, rest_lt, once-rest}
 use Rattle.shelves.proofs.Descent.at_once.Goals as goal
 
 pub overflow_mul-first : goal.overflow_mul-first
