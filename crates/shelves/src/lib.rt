@@ -55,8 +55,8 @@ struct Beginning {
 #[derive(Drop)]
 struct Acceptor {
     m: u64,
-    moves: [u8; 256],
     ban: [u8; 128],
+    moves: [u8; 256],
     ghost tables: { Tables m moves ban } by { Tables-prop m moves ban },
 }
 
@@ -237,8 +237,8 @@ fn page_by(
 {
     let acceptor = Acceptor {
         m,
-        moves: moves_of(m, &states.next),
         ban: states.ban,
+        moves: moves_of(m, &states.next),
     };
     let mut ways: [u64; 2048] = [0; 2048];
     acceptor.ways_table(k, &mut ways);
