@@ -6,6 +6,7 @@
 -- Assumes nothing.
 use Rattle.std.specs.Prelude.{ℕ, zero, suc, ◌+◌, ◌-◌, ◌*◌, ◌^◌, ◌≤◌, ◌<◌, min, true, false, ◌↔◌, ◌≡◌, refl, length, replicate, drop}
 use mathlib.Core.List.{List, [], ◌∷◌, ◌++◌, map, Memᴰ}
+use Rattle.std.specs.declared.cmp.Ordering.TheVariants.{Less}
 use Rattle.std.proofs.Common.{sym, ap, subst, ◌∙◌, arith, drop_at}
 use contract.Lifetimes.{Lfts}
 use Rattle.std.proofs.lemmas.List.{length-map}
@@ -232,7 +233,7 @@ examine-refuses κs k m key seq takes r h =
 
 -- the states of a word
 pub prepare-refuses : (k m key word : ℕ) (r : _) → Prepares k m key word r
-    → Refuses (shelf_tests k m key word) (λ n. record { refusal = n; own = replicate 32 0; marks = replicate 128 0; next = replicate 128 0; ban = replicate 128 0 }) (states.prepared r).refusal (states.prepared r)
+    → Refuses (shelf_tests k m key word) (λ n. record { refusal = n; own = replicate 32 0; marks = replicate 128 Less; next = replicate 128 0; ban = replicate 128 0 }) (states.prepared r).refusal (states.prepared r)
     × Lowest (shelf_tests k m key word) (states.prepared r).refusal
 unfolding states.prepare_outcome states.prepare_answer
 prepare-refuses k m key word r h =
