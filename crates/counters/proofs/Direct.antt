@@ -4,7 +4,7 @@ use Prim.Native.Nat.{ℕ, ◌+◌, ◌-◌, ◌*◌, ◌/◌, ◌%◌, ◌^◌, 
 use mathlib.Core.Bool.{Bool, true, false, not, ◌&&◌, ◌||◌, not-not}
 use mathlib.Core.List.{List, [], ◌∷◌, ◌++◌}
 use mathlib.Core.Path.{◌≡◌, refl, sym, ap, ap₂, ◌∙◌}
-use native.Mathlib.Nat.{pow-le-pow_right, lt_of_lt_of_le}
+use native.Mathlib.Nat.{one-le-pow, pow-le-pow_right, lt_of_lt_of_le}
 use native.Mathlib.Omega.{arith}
 use lib.Bits.{bit_xor}
 use lib.Dec.{ltb, leb}
@@ -55,6 +55,10 @@ module _ {m key word i : ℕ} (set : SetTo m key word) (s : Served m i) (h : i �
   -- there are 4^m words of m letters
   pub side-is : side ≡ 4 ^ m
   side-is = e ∙ power-four m set.few
+
+  -- so there are some
+  pub side_some : 0 < side
+  side_some = rw side-is (one-le-pow m 4 four-pos)
 
   -- the word's letters
   abbrev own_word : Word

@@ -1,11 +1,9 @@
 -- `counters::Setting::whole` meets its contract.
 -- Assumes nothing.
-use Rattle.std.proofs.Common.{rules, arith, sym, ◌∙◌, ◌<◌}
+use Rattle.std.proofs.Common.{rules, arith, sym, ◌∙◌}
 use Rattle.std.proofs.iter.Serving.{serving}
-use native.Mathlib.Nat.{one-le-pow}
-use Rattle.laws.specs.Numbers.{four-pos}
 use Rattle.counters.proofs.Searches.{all-searched}
-use Rattle.counters.proofs.Direct.{both_small, side-is, direct, at_most_at, above-tested}
+use Rattle.counters.proofs.Direct.{both_small, side_some, direct, at_most_at, above-tested}
 use Rattle.counters.proofs.Setting.whole.Goals as goal
 
 pub overflow_mul-followed-2 : goal.overflow_mul-followed-2
@@ -16,9 +14,7 @@ overflow_add-followed c = let small = both_small c.args.self.set_to c.requires.s
 
 pub all-requires-clause-callable : goal.all-requires-clause-callable
 all-requires-clause-callable c =
-    let some : 0 < c.power-side.result =
-    rw (side-is c.args.self.set_to c.requires.served c.requires.in_range c.power-side.ensures) (one-le-pow c.args.self.m 4 four-pos)
-    in
+    let some = side_some c.args.self.set_to c.requires.served c.requires.in_range c.power-side.ensures in
     grind (arith, serving)
 
 pub returns : goal.returns
