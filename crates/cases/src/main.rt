@@ -6,7 +6,6 @@
 mod columns;
 mod operations;
 mod printed;
-mod rooms;
 mod tables;
 mod tally;
 

@@ -1,7 +1,7 @@
 // A case of each operation: whether what is asked comes out as it must. Room is lent full of nines, so that what is written is seen, and what must
 // stay as it was.
 use crate::columns::Case;
-use crate::rooms;
+use std::iter;
 
 // Whether the case of an operation holds. No other operation does.
 pub fn holds(operation: &[u8], case: &Case<'_>) -> bool {
@@ -22,6 +22,18 @@ pub fn holds(operation: &[u8], case: &Case<'_>) -> bool {
         b"foreign-scan" => foreign_scan(case),
         _ => false,
     }
+}
+
+// Whether a room has these numbers, from the first on.
+fn room_has<T, I>(room: &[T], numbers: I) -> bool
+where
+    T: Copy + Into<u64>,
+    I: Iterator<Item = u64> + Drop,
+    requires { I.can_next numbers }
+{
+    room.iter()
+        .zip(numbers)
+        .all(|(entry, number)| (*entry).into() == number)
 }
 
 // Packing a text: the refusal, the place of a bad letter, the word.
@@ -68,11 +80,11 @@ fn antemers(case: &Case<'_>) -> bool {
 fn worksheet(case: &Case<'_>) -> bool {
     let got = worksheets::worksheet(case.k, case.m, case.key, case.word);
     let sheet = got.sheet;
-    let ante = sheet.antemers;
-    let post = sheet.postmers;
+    let ante = [case.first, case.second].into_iter().chain(iter::repeat(0));
+    let post = case.after.into_iter().take(2).chain(iter::repeat(0));
     (got.refusal == case.refusal)
-        & rooms::rows_are(&ante, case.first, case.second)
-        & rooms::rows_are(&post, case.after[0], case.after[1])
+        & room_has(&sheet.antemers, ante)
+        & room_has(&sheet.postmers, post)
 }
 
 // A page: the refusal, how many k-mers are written, and the room of five after.
@@ -81,7 +93,9 @@ fn page(case: &Case<'_>) -> bool {
     let takes = case.room.min(5) as usize;
     let room = &mut lent[..takes];
     let got = shelves::page(case.k, case.m, case.key, case.word, case.start, room);
-    (got.refusal == case.refusal) & (got.written == case.first) & rooms::has(&lent, &case.after)
+    (got.refusal == case.refusal)
+        & (got.written == case.first)
+        & room_has(&lent, case.after.into_iter())
 }
 
 // A scan: the refusal, the place of a bad letter, the number of windows.
@@ -94,7 +108,7 @@ fn scanned(seq: &[u8], room: &mut [u32], case: &Case<'_>) -> bool {
 fn scan(case: &Case<'_>) -> bool {
     let mut lent = [9; 6];
     let takes = case.room.min(6) as usize;
-    scanned(case.text, &mut lent[..takes], case) & rooms::has(&lent, &case.after)
+    scanned(case.text, &mut lent[..takes], case) & room_has(&lent, case.after.into_iter())
 }
 
 // A scan of one byte over and over, with room for 65,536 windows: the byte is the word, and the start is how often it stands there. Of equal m-mers the
@@ -103,7 +117,7 @@ fn long_scan(case: &Case<'_>) -> bool {
     let letters = case.start.min(65537) as usize;
     let seq = &[(case.word % 256) as u8; 65537][..letters];
     let mut room = [9; 65536];
-    scanned(seq, &mut room, case) & rooms::rises(&room, case.second)
+    scanned(seq, &mut room, case) & room_has(&room, (0..case.second).chain(iter::repeat(9)))
 }
 
 // The foreign size: the one number.
@@ -117,5 +131,5 @@ fn foreign_scan(case: &Case<'_>) -> bool {
     let takes = case.room.min(8) as usize;
     let room = &mut lent[..takes];
     let got = tukinraso::tukinraso_scan(case.k, case.m, case.key, case.text, room);
-    (got == case.first) & rooms::has(&lent, &case.after)
+    (got == case.first) & room_has(&lent, case.after.into_iter())
 }
