@@ -12,6 +12,8 @@ use Rattle.laws.specs.Numbers.{four-pos, number_lt, digits-below, digits_number,
 use Rattle.laws.specs.Minima.{vigemin-mer}
 use Rattle.laws.specs.Accepted.{ShelfAccepted, VigeminAccepted, accepted-word, size-refusal}
 use Rattle.laws.specs.RoundTrips.{vigemin-outcome}
+use Rattle.vigemins.specs.Answers.{found}
+use Rattle.sizes.specs.Answers.{counted}
 use Rattle.demands.specs.Promises.{Finds, Sizes, ForeignSizes}
 use Rattle.demands.specs.Meanings.{VigeminAt, Vigemin, vigemin-means, means-vigemin, number-filter}
 use Rattle.demands.specs.First.{foreign-size-refuses}
@@ -29,7 +31,7 @@ module _ (key w : Word) where
 
 module _ {k m key word : ℕ} (a : ShelfAccepted k m key word) where
   -- whatever the size may answer is the number of k-mers with that vigemin
-  pub size-right : (r : _) → Sizes k m key word r → (r.refusal ≡ 0) × SizeIs k (word_of m key) (word_of m word) r.count
+  pub size-right : (r : _) → Sizes k m key word r → ((counted r).refusal ≡ 0) × SizeIs k (word_of m key) (word_of m word) (counted r).count
   size-right r h = (
     ap (λ (o : Counted). o.refusal) h ∙ size-refusal k m key word ∙ accepted-word a,
     subst (SizeIs k (word_of m key) (word_of m word)) (sym (size-defined a r h)) (size-means (word_of m key) (word_of m word) k (fits a)),
@@ -42,19 +44,19 @@ module _ {k m key word : ℕ} (a : ShelfAccepted k m key word) where
 
 -- whatever the vigemin may answer is the vigemin of the k-mer and its position
 pub vigemin-right : {k m key kmer : ℕ} → VigeminAccepted k m key kmer → (r : _) → Finds k m key kmer r
-    → (r.refusal ≡ 0) × (r.word < 4 ^ m) × VigeminAt (word_of m key) (word_of m r.word) (word_of k kmer) r.position
+    → ((found r).refusal ≡ 0) × ((found r).word < 4 ^ m) × VigeminAt (word_of m key) (word_of m (found r).word) (word_of k kmer) (found r).position
 vigemin-right {k} {m} {key} {kmer} a r h =
     let f = keyed (word_of m key) in
     let x = word_of k kmer in
     let e = h ∙ vigemin-outcome a in
     let inside : m ≤ length x = rw (length_digits 4 k kmer) a.order.m_fits in
     let v : Mer m (vigemin f m x) = vigemin-mer f m x inside (digits-below four-pos k kmer) in
-    let number : r.word ≡ val (vigemin f m x) = ap (λ (o : Found). o.word) e in
-    let word : word_of m r.word ≡ vigemin f m x = ap (word_of m) number ∙ digits_number 4 (vigemin f m x) v.1 v.0 in
-    let long : length (word_of m r.word) ≡ m = length_digits 4 m r.word in
-    let at : r.position ≡ vigemin_at f m x = ap (λ (o : Found). o.position) e in (
+    let number : (found r).word ≡ val (vigemin f m x) = ap (λ (o : Found). o.word) e in
+    let word : word_of m (found r).word ≡ vigemin f m x = ap (word_of m) number ∙ digits_number 4 (vigemin f m x) v.1 v.0 in
+    let long : length (word_of m (found r).word) ≡ m = length_digits 4 m (found r).word in
+    let at : (found r).position ≡ vigemin_at f m x = ap (λ (o : Found). o.position) e in (
       ap (λ (o : Found). o.refusal) e,
       rw number (subst (λ (n : ℕ). val (vigemin f m x) < 4 ^ n) v.0 (number_lt 4 (vigemin f m x) v.1)),
-      subst (VigeminAt (word_of m key) (word_of m r.word) x) (ap (λ (n : ℕ). vigemin_at f n x) long ∙ sym at)
-          (vigemin-means (word_of m key) (word_of m r.word) x (rw long inside) (ap (λ (n : ℕ). vigemin f n x) long ∙ sym word)),
+      subst (VigeminAt (word_of m key) (word_of m (found r).word) x) (ap (λ (n : ℕ). vigemin_at f n x) long ∙ sym at)
+          (vigemin-means (word_of m key) (word_of m (found r).word) x (rw long inside) (ap (λ (n : ℕ). vigemin f n x) long ∙ sym word)),
     )

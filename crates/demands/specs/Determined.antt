@@ -4,6 +4,11 @@
 -- tells less is refused there.
 -- Assumes nothing.
 use Rattle.laws.specs.Promises.{TakesAll, Determines}
+use Rattle.refusals.proofs.Refusal.number.Kinds as number-kinds
+use Rattle.refusals.proofs.Refusal.number.Reads as number-reads
+use Rattle.refusals.proofs.Refusal.place.Kinds as place-kinds
+use Rattle.refusals.proofs.Refusal.place.Reads as place-reads
+use Rattle.refusals.proofs.Determined.{number-takes-all, number-determined, place-takes-all, place-determined}
 use Rattle.powers.proofs.powers.Kinds as powers-kinds
 use Rattle.powers.proofs.powers.Reads as powers-reads
 use Rattle.powers.proofs.power.Kinds as power-kinds
@@ -74,6 +79,9 @@ use Rattle.cards.proofs.Determined.{card-takes-all, card-determined}
 
 -- the contracts of all public functions take every input
 pub record EveryInput : Type 0 where
+  -- refusals
+  pub number : TakesAll number-kinds.ps number-reads.Asked
+  pub place : TakesAll place-kinds.ps place-reads.Asked
   -- powers
   pub powers : TakesAll powers-kinds.ps powers-reads.Asked
   pub power : TakesAll power-kinds.ps power-reads.Asked
@@ -119,6 +127,8 @@ pub record EveryInput : Type 0 where
 pub every-input : EveryInput
 every-input =
     record {
+      number = number-takes-all;
+      place = place-takes-all;
       powers = powers-takes-all;
       power = power-takes-all;
       lesser = lesser-takes-all;
@@ -149,6 +159,9 @@ every-input =
 
 -- the contracts of all public functions determine their outcomes
 pub record EveryContract : Type 0 where
+  -- refusals
+  pub number : Determines number-kinds.ps number-kinds.r number-reads.Post
+  pub place : Determines place-kinds.ps place-kinds.r place-reads.Post
   -- powers
   pub powers : Determines powers-kinds.ps powers-kinds.r powers-reads.Post
   pub power : Determines power-kinds.ps power-kinds.r power-reads.Post
@@ -194,6 +207,8 @@ pub record EveryContract : Type 0 where
 pub every-contract : EveryContract
 every-contract =
     record {
+      number = number-determined;
+      place = place-determined;
       powers = powers-determined;
       power = power-determined;
       lesser = lesser-determined;

@@ -144,104 +144,104 @@ module _ {Outcome : Type 0} (number_of : Outcome → ℕ) (answer : ℕ → Outc
 
 -- packing
 pub pack-refuses : (κs : Lfts 1) (text : Lent) (r : _) → Packs κs text r
-    → Refuses (pack_tests text.now) (λ n. record { refusal = n; place = place_beside n text.now; word = 0 }) r.refusal (packed r)
-    × Lowest (pack_tests text.now) r.refusal
+    → Refuses (pack_tests text.now) (λ n. record { refusal = n; place = place_beside n text.now; word = 0 }) (packed r).refusal (packed r)
+    × Lowest (pack_tests text.now) (packed r).refusal
 unfolding outcomes.pack_outcome outcomes.pack_answer
 pack-refuses κs text r h =
     refuses-lowest (λ (o : outcomes.Packed). o.refusal) (λ n. outcomes.pack_answer n text.now) refl (λ n. refl) (λ n. refl) (omega arith) refl h
 
 -- unpacking
 pub unpack-refuses : (κs : Lfts 1) (word n : ℕ) (room : LentRoom) (r : _) (last : List ℕ) → Unpacks κs word n room r last
-    → Refuses (unpack_tests word n room.now) (λ i. record { refusal = i; written = 0; room = room.now }) r.refusal (unpacked r last)
-    × Lowest (unpack_tests word n room.now) r.refusal
+    → Refuses (unpack_tests word n room.now) (λ i. record { refusal = i; written = 0; room = room.now }) (unpacked r last).refusal (unpacked r last)
+    × Lowest (unpack_tests word n room.now) (unpacked r last).refusal
 unfolding outcomes.unpack_outcome outcomes.unpack_answer
 unpack-refuses κs word n room r last h =
     refuses-lowest (λ (o : outcomes.Unpacked). o.refusal) (λ i. outcomes.unpack_answer i word n room.now) refl (λ i. refl) (λ i. refl) (omega arith) refl h
 
 -- the vigemin
 pub vigemin-refuses : (k m key kmer : ℕ) (r : _) → Finds k m key kmer r
-    → Refuses (vigemin_tests k m key kmer) (λ n. record { refusal = n; word = 0; position = 0 }) r.refusal (found r)
-    × Lowest (vigemin_tests k m key kmer) r.refusal
+    → Refuses (vigemin_tests k m key kmer) (λ n. record { refusal = n; word = 0; position = 0 }) (found r).refusal (found r)
+    × Lowest (vigemin_tests k m key kmer) (found r).refusal
 unfolding outcomes.vigemin_outcome outcomes.vigemin_answer
 vigemin-refuses k m key kmer r h =
     refuses-lowest (λ (o : outcomes.Found). o.refusal) (λ n. outcomes.vigemin_answer n (keyed (word_of m key)) m (word_of k kmer)) refl (λ n. refl) (λ n. refl) (omega arith) refl h
 
 -- the size
 pub size-refuses : (k m key word : ℕ) (r : _) → Sizes k m key word r
-    → Refuses (shelf_tests k m key word) (λ n. record { refusal = n; count = 0 }) r.refusal (sizes.counted r)
-    × Lowest (shelf_tests k m key word) r.refusal
+    → Refuses (shelf_tests k m key word) (λ n. record { refusal = n; count = 0 }) (sizes.counted r).refusal (sizes.counted r)
+    × Lowest (shelf_tests k m key word) (sizes.counted r).refusal
 unfolding outcomes.size_outcome outcomes.size_answer
 size-refuses k m key word r h =
     refuses-lowest (λ (o : outcomes.Counted). o.refusal) (λ n. outcomes.size_answer n (keyed (word_of m key)) k (word_of m word)) refl (λ n. refl) (λ n. refl) (omega arith) refl h
 
 -- the worksheet
 pub worksheet-refuses : (k m key word : ℕ) (r : _) → Works k m key word r
-    → Refuses (shelf_tests k m key word) (λ n. record { refusal = n; antemers = replicate 31 0; postmers = replicate 31 0 }) r.refusal (worked r)
-    × Lowest (shelf_tests k m key word) r.refusal
+    → Refuses (shelf_tests k m key word) (λ n. record { refusal = n; antemers = replicate 31 0; postmers = replicate 31 0 }) (worked r).refusal (worked r)
+    × Lowest (shelf_tests k m key word) (worked r).refusal
 unfolding outcomes.worksheet_outcome outcomes.worksheet_answer
 worksheet-refuses k m key word r h =
     refuses-lowest (λ (o : outcomes.Worked). o.refusal) (λ n. outcomes.worksheet_answer n (keyed (word_of m key)) k m (word_of m word)) refl (λ n. refl) (λ n. refl) (omega arith) refl h
 
 -- the plain counter
 pub counter-refuses : (k m key word : ℕ) (r : _) → Counts k m key word r
-    → Refuses (counter_tests k m key word) (λ n. record { refusal = n; count = 0 }) r.refusal (counters.counted r)
-    × Lowest (counter_tests k m key word) r.refusal
+    → Refuses (counter_tests k m key word) (λ n. record { refusal = n; count = 0 }) (counters.counted r).refusal (counters.counted r)
+    × Lowest (counter_tests k m key word) (counters.counted r).refusal
 unfolding outcomes.counter_outcome outcomes.counter_answer
 counter-refuses k m key word r h =
     refuses-lowest (λ (o : outcomes.Counted). o.refusal) (λ n. outcomes.counter_answer n (keyed (word_of m key)) (k - m) (word_of m word)) refl (λ n. refl) (λ n. refl) (omega arith) refl h
 
 -- a page
 pub page-refuses : (κs : Lfts 1) (k m key word start : ℕ) (room : LentRoom) (r : _) (last : List ℕ) → Pages κs k m key word start room r last
-    → Refuses (page_tests k m key word start) (λ n. record { refusal = n; written = 0; room = room.now }) r.refusal (paged r last)
-    × Lowest (page_tests k m key word start) r.refusal
+    → Refuses (page_tests k m key word start) (λ n. record { refusal = n; written = 0; room = room.now }) (paged r last).refusal (paged r last)
+    × Lowest (page_tests k m key word start) (paged r last).refusal
 unfolding outcomes.page_outcome outcomes.page_answer
 page-refuses κs k m key word start room r last h =
     refuses-lowest (λ (o : outcomes.Paged). o.refusal) (λ n. outcomes.page_answer n (keyed (word_of m key)) k (word_of m word) start room.now) refl (λ n. refl) (λ n. refl) (omega arith) refl h
 
 -- a whole shelf by pages
 pub list-refuses : (κs : Lfts 1) (k m key word each : ℕ) (room : LentRoom) (r : _) (last : List ℕ) → Lists κs k m key word each room r last
-    → Refuses (list_tests k m key word each room.now) (λ n. record { refusal = n; written = 0; room = room.now }) r.refusal (listers.listed r last)
-    × Lowest (list_tests k m key word each room.now) r.refusal
+    → Refuses (list_tests k m key word each room.now) (λ n. record { refusal = n; written = 0; room = room.now }) (listers.listed r last).refusal (listers.listed r last)
+    × Lowest (list_tests k m key word each room.now) (listers.listed r last).refusal
 unfolding listers.list_outcome listers.list_answer
 list-refuses κs k m key word each room r last h =
     refuses-lowest (λ (o : listers.Listed). o.refusal) (λ n. listers.list_answer n (keyed (word_of m key)) k (word_of m word) room.now) refl (λ n. refl) (λ n. refl) (omega arith) refl h
 
 -- the scan
 pub scan-refuses : (κs : Lfts 2) (k m key : ℕ) (seq : Lent) (room : LentRoom) (r : _) (last : List ℕ) → Scans κs k m key seq room r last
-    → Refuses (scan_tests k m key seq.now 1 room.now) (λ n. record { refusal = n; place = place_beside n seq.now; windows = 0; room = room.now }) r.refusal (scanned r last)
-    × Lowest (scan_tests k m key seq.now 1 room.now) r.refusal
+    → Refuses (scan_tests k m key seq.now 1 room.now) (λ n. record { refusal = n; place = place_beside n seq.now; windows = 0; room = room.now }) (scanned r last).refusal (scanned r last)
+    × Lowest (scan_tests k m key seq.now 1 room.now) (scanned r last).refusal
 unfolding outcomes.scan_outcome outcomes.scan_answer
 scan-refuses κs k m key seq room r last h =
     refuses-lowest (λ (o : outcomes.Scanned). o.refusal) (λ n. outcomes.scan_answer n (λ ps. ps) (keyed (word_of m key)) k m seq.now room.now) refl (λ n. refl) (λ n. refl) (omega arith) refl h
 
 -- the scan into bytes
 pub scan-bytes-refuses : (κs : Lfts 2) (k m key : ℕ) (seq : Lent) (room : LentRoom) (r : _) (last : List ℕ) → ScansBytes κs k m key seq room r last
-    → Refuses (scan_tests k m key seq.now 4 room.now) (λ n. record { refusal = n; place = place_beside n seq.now; windows = 0; room = room.now }) r.refusal (scanned r last)
-    × Lowest (scan_tests k m key seq.now 4 room.now) r.refusal
+    → Refuses (scan_tests k m key seq.now 4 room.now) (λ n. record { refusal = n; place = place_beside n seq.now; windows = 0; room = room.now }) (scanned r last).refusal (scanned r last)
+    × Lowest (scan_tests k m key seq.now 4 room.now) (scanned r last).refusal
 unfolding outcomes.scan_bytes_outcome outcomes.scan_answer
 scan-bytes-refuses κs k m key seq room r last h =
     refuses-lowest (λ (o : outcomes.Scanned). o.refusal) (λ n. outcomes.scan_answer n outcomes.as_bytes (keyed (word_of m key)) k m seq.now room.now) refl (λ n. refl) (λ n. refl) (omega arith) refl h
 
 -- what is tested before a scan
 pub examine-refuses : (κs : Lfts 1) (k m key : ℕ) (seq : Lent) (takes : ℕ) (r : _) → Examines κs k m key seq takes r
-    → Refuses (examine_tests k m key seq.now takes) (λ n. record { refusal = n; place = place_beside n seq.now; windows = 0 }) r.refusal (sequences.examined r)
-    × Lowest (examine_tests k m key seq.now takes) r.refusal
+    → Refuses (examine_tests k m key seq.now takes) (λ n. record { refusal = n; place = place_beside n seq.now; windows = 0 }) (sequences.examined r).refusal (sequences.examined r)
+    × Lowest (examine_tests k m key seq.now takes) (sequences.examined r).refusal
 unfolding sequences.examine_outcome sequences.examine_answer
 examine-refuses κs k m key seq takes r h =
     refuses-lowest (λ (o : sequences.Examined). o.refusal) (λ n. sequences.examine_answer n k seq.now) refl (λ n. refl) (λ n. refl) (omega arith) refl h
 
 -- the states of a word
 pub prepare-refuses : (k m key word : ℕ) (r : _) → Prepares k m key word r
-    → Refuses (shelf_tests k m key word) (λ n. record { refusal = n; own = replicate 32 0; marks = replicate 128 0; next = replicate 128 0; ban = replicate 128 0 }) r.refusal (states.prepared r)
-    × Lowest (shelf_tests k m key word) r.refusal
+    → Refuses (shelf_tests k m key word) (λ n. record { refusal = n; own = replicate 32 0; marks = replicate 128 0; next = replicate 128 0; ban = replicate 128 0 }) (states.prepared r).refusal (states.prepared r)
+    × Lowest (shelf_tests k m key word) (states.prepared r).refusal
 unfolding states.prepare_outcome states.prepare_answer
 prepare-refuses k m key word r h =
     refuses-lowest (λ (o : states.Prepared). o.refusal) (λ n. states.prepare_answer n (key_ranking (word_of m key)) (word_of m word)) refl (λ n. refl) (λ n. refl) (omega arith) refl h
 
 -- the line that the shelf printer reads
 pub read-refuses : (κs : Lfts 1) (input : Lent) (r : _) → ReadsLine κs input r
-    → Refuses (line_tests input.now) (λ n. record { refusal = n; asked = cards.nothing }) r.refusal (lined r)
-    × Lowest (line_tests input.now) r.refusal
+    → Refuses (line_tests input.now) (λ n. record { refusal = n; asked = cards.nothing }) (lined r).refusal (lined r)
+    × Lowest (line_tests input.now) (lined r).refusal
 unfolding cards.read_outcome cards.read_answer
 read-refuses κs input r h =
     refuses-lowest (λ (o : cards.Line). o.refusal) (λ n. cards.read_answer n (cards.asks (cards.parts input.now))) refl (λ n. refl) (λ n. refl) (omega arith) refl h
@@ -252,7 +252,7 @@ refused_line n = cards.ascii "refused " ++ cards.decimal n ++ cards.ascii "\n"
 
 -- the shelf printer: of its list the first ground that is met decides, so that 10 goes before lower numbers; the refusal's line is printed
 pub card-refuses : (κs : Lfts 1) (input : Lent) (r : _) → Prints κs input r
-    → Refuses (card_tests input.now) (λ n. cards.printed_text n (refused_line n)) r.refusal (printed r)
+    → Refuses (card_tests input.now) (λ n. cards.printed_text n (refused_line n)) (printed r).refusal (printed r)
 unfolding cards.card_outcome cards.card_text
 card-refuses κs input r h =
     let a = cards.asks (cards.parts input.now) in
@@ -342,7 +342,7 @@ list-rest f k w (suc n) room = refl
 
 -- unpacking, refused or not, changes no more of the room than it says that it wrote (of the scans ScanIs in Second says it and, refused, scan-refuses)
 pub unpack-spare : (κs : Lfts 1) (word n : ℕ) (room : LentRoom) (r : _) (last : List ℕ) → Unpacks κs word n room r last
-    → drop r.written last ≡ drop r.written room.now
+    → drop (unpacked r last).written last ≡ drop (unpacked r last).written room.now
 unfolding outcomes.unpack_outcome
 unpack-spare κs word n room r last h =
     subst (λ (o : outcomes.Unpacked). drop o.written o.room ≡ drop o.written room.now) (sym h)
@@ -350,7 +350,7 @@ unpack-spare κs word n room r last h =
 
 -- a page
 pub page-spare : (κs : Lfts 1) (k m key word start : ℕ) (room : LentRoom) (r : _) (last : List ℕ) → Pages κs k m key word start room r last
-    → drop r.written last ≡ drop r.written room.now
+    → drop (paged r last).written last ≡ drop (paged r last).written room.now
 unfolding outcomes.page_outcome
 page-spare κs k m key word start room r last h =
     subst (λ (o : outcomes.Paged). drop o.written o.room ≡ drop o.written room.now) (sym h)
@@ -358,7 +358,7 @@ page-spare κs k m key word start room r last h =
 
 -- a whole shelf by pages
 pub list-spare : (κs : Lfts 1) (k m key word each : ℕ) (room : LentRoom) (r : _) (last : List ℕ) → Lists κs k m key word each room r last
-    → drop r.written last ≡ drop r.written room.now
+    → drop (listers.listed r last).written last ≡ drop (listers.listed r last).written room.now
 unfolding listers.list_outcome
 list-spare κs k m key word each room r last h =
     subst (λ (o : listers.Listed). drop o.written o.room ≡ drop o.written room.now) (sym h)

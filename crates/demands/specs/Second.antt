@@ -22,6 +22,11 @@ use Rattle.laws.specs.Split.{column-at, column-above}
 use Rattle.laws.specs.Accepted.{PackAccepted, UnpackAccepted, ShelfAccepted, CounterAccepted, ScanAccepted, accepted-word, accepted-counter, accepted-scan, size-count}
 use Rattle.laws.specs.RoundTrips.{pack-outcome, unpack-outcome, counter-row}
 use Rattle.laws.proofs.RoundTrips.{worksheet-size}
+use Rattle.words.specs.Answers.{packed, unpacked}
+use Rattle.scans.specs.Answers.{scanned}
+use Rattle.worksheets.specs.Answers.{worked}
+use Rattle.sizes.specs.Answers.{counted}
+use Rattle.counters.specs.Answers as counters
 use Rattle.demands.specs.Promises.{Lent, LentRoom, Packs, Unpacks, Scans, ScansBytes, Works, Sizes, Counts, ForeignScans}
 use Rattle.demands.specs.Meanings.{mer_at, keyed_number, Vigemin, Antemer, Postmer, Number, antemer-means, postmer-means, number-filter}
 
@@ -65,13 +70,13 @@ module _ {k m key word : ℕ} (a : ShelfAccepted k m key word) where
   fits = rw (length_digits 4 m word) a.order.m_fits
 
   -- what the size may answer is the size that is defined
-  pub size-defined : (r : _) → Sizes k m key word r → r.count ≡ size (keyed (word_of m key)) k (word_of m word)
+  pub size-defined : (r : _) → Sizes k m key word r → (counted r).count ≡ size (keyed (word_of m key)) k (word_of m word)
   size-defined r h = ap (λ (o : Counted). o.count) h ∙ size-count k m key word (accepted-word a)
 
   -- what the worksheet answers where nothing is refused
   worked-columns : (r : _) → Works k m key word r
-      → (r.refusal ≡ 0) × (r.sheet.antemers ≡ column k m (antemers (keyed (word_of m key)) (word_of m word)))
-      × (r.sheet.postmers ≡ column k m (postmers (keyed (word_of m key)) (word_of m word)))
+      → ((worked r).refusal ≡ 0) × ((worked r).antemers ≡ column k m (antemers (keyed (word_of m key)) (word_of m word)))
+      × ((worked r).postmers ≡ column k m (postmers (keyed (word_of m key)) (word_of m word)))
   unfolding worksheet_outcome worksheet_answer
   worked-columns r h =
       let e = h ∙ ap (λ (n : ℕ). worksheet_answer n (keyed (word_of m key)) k m (word_of m word)) (accepted-word a) in
@@ -79,7 +84,7 @@ module _ {k m key word : ℕ} (a : ShelfAccepted k m key word) where
 
   -- whatever the worksheet may answer has these counts in its rows
   pub worksheet-right : (r : _) → Works k m key word r
-      → (r.refusal ≡ 0) × WorksheetIs k m (word_of m key) (word_of m word) r.sheet.antemers r.sheet.postmers
+      → ((worked r).refusal ≡ 0) × WorksheetIs k m (word_of m key) (word_of m word) (worked r).antemers (worked r).postmers
   worksheet-right r h =
       let c = worked-columns r h in
       let f = keyed (word_of m key) in
@@ -98,17 +103,17 @@ module _ {k m key word : ℕ} (a : ShelfAccepted k m key word) where
 
   -- the size is the sum over a of the antemers in row k − m − a times the postmers in row a
   pub size-worksheet : (r : _) → Works k m key word r → (s : _) → Sizes k m key word s
-      → s.count ≡ total (tabulate (λ i. get_or r.sheet.antemers (k - m - i) 0 * get_or r.sheet.postmers i 0) (suc (k - m)))
+      → (counted s).count ≡ total (tabulate (λ i. get_or (worked r).antemers (k - m - i) 0 * get_or (worked r).postmers i 0) (suc (k - m)))
   size-worksheet r h s g = size-defined s g ∙ sym (worksheet-size k m key word h (accepted-word a))
 
 -- so of W3, key TAA and word AAA: whatever the size may answer is 4, where Lemma 8 as printed gives 1
-pub size-case : (r : _) → Sizes 4 3 48 0 r → (r.refusal ≡ 0) × (r.count ≡ 4)
+pub size-case : (r : _) → Sizes 4 3 48 0 r → ((counted r).refusal ≡ 0) × ((counted r).count ≡ 4)
 unfolding size_outcome size_answer
 size-case r h = (ap (λ (o : Counted). o.refusal) h, ap (λ (o : Counted). o.count) h)
 
 -- whatever the plain counter may answer is the number of antemers of length k − m
 pub counter-right : {k m key word : ℕ} → CounterAccepted k m key word → (r : _) → Counts k m key word r
-    → (r.refusal ≡ 0) × AntemersAre (word_of m key) (word_of m word) (k - m) r.count
+    → ((counters.counted r).refusal ≡ 0) × AntemersAre (word_of m key) (word_of m word) (k - m) (counters.counted r).count
 unfolding counter_outcome counter_answer
 counter-right {k} {m} {key} {word} a r h =
     let e = h ∙ ap (λ (n : ℕ). counter_answer n (keyed (word_of m key)) (k - m) (word_of m word)) (accepted-counter a) in (
@@ -118,7 +123,7 @@ counter-right {k} {m} {key} {word} a r h =
 
 -- which stands in row k − m of the worksheet
 pub counter-worksheet : {k m key word : ℕ} → CounterAccepted k m key word → (r : _) → Counts k m key word r → (s : _) → Works k m key word s
-    → r.count ≡ get_or s.sheet.antemers (k - m) 0
+    → (counters.counted r).count ≡ get_or (worked s).antemers (k - m) 0
 counter-worksheet {k} {m} {key} {word} a r h s g =
     ap (λ (o : Counted). o.count) h ∙ counter-row k m key word (sym (ap (λ (o : Counted). o.refusal) h) ∙ (counter-right a r h).0)
     ∙ ap (λ (o : Worked). get_or o.antemers (k - m) 0) (sym g)
@@ -174,13 +179,13 @@ scan-answered {k} {m} {key} {each} {seq} {room} a entries h =
 module _ (κs : Lfts 2) {k m key : ℕ} (seq : Lent) (room : LentRoom) where
   -- whatever the scan may answer, and leave in the room
   pub scan-right : ScanAccepted k m key seq.now 1 room.now → (r : _) (last : List ℕ) → Scans κs k m key seq room r last
-      → (r.refusal ≡ 0) × ScanIs (λ ps. ps) (word_of m key) k m seq.now room.now r.windows last
+      → ((scanned r last).refusal ≡ 0) × ScanIs (λ ps. ps) (word_of m key) k m seq.now room.now (scanned r last).windows last
   unfolding scan_outcome
   scan-right a r last h = scan-answered a (λ ps. ps) h
 
   -- the scan into bytes: four for each position, high first
   pub scan-bytes-right : ScanAccepted k m key seq.now 4 room.now → (r : _) (last : List ℕ) → ScansBytes κs k m key seq room r last
-      → (r.refusal ≡ 0) × ScanIs as_bytes (word_of m key) k m seq.now room.now r.windows last
+      → ((scanned r last).refusal ≡ 0) × ScanIs as_bytes (word_of m key) k m seq.now room.now (scanned r last).windows last
   unfolding scan_bytes_outcome
   scan-bytes-right a r last h = scan-answered a as_bytes h
 
@@ -198,14 +203,14 @@ module _ (κs : Lfts 2) {k m key : ℕ} (seq : Lent) (room : LentRoom) where
 -- ---- packing and unpacking
 
 -- whatever packing may answer is the number of the word that the text spells
-pub pack-right : (κs : Lfts 1) (t : Lent) → PackAccepted t.now → (r : _) → Packs κs t r → (r.refusal ≡ 0) × (r.word ≡ val (spelled t.now))
+pub pack-right : (κs : Lfts 1) (t : Lent) → PackAccepted t.now → (r : _) → Packs κs t r → ((packed r).refusal ≡ 0) × ((packed r).word ≡ val (spelled t.now))
 pack-right κs t a r h =
     let e = h ∙ pack-outcome a in
     (ap (λ (o : Packed). o.refusal) e, ap (λ (o : Packed). o.word) e)
 
 -- whatever unpacking may answer, and leave in the room: as many letters as were asked for, and at the front of the room the word in capitals
 pub unpack-right : (κs : Lfts 1) (word n : ℕ) (room : LentRoom) → UnpackAccepted word n room.now → (r : _) (last : List ℕ) → Unpacks κs word n room r last
-    → (r.refusal ≡ 0) × (r.written ≡ n) × (last ≡ over (text (word_of n word)) room.now)
+    → ((unpacked r last).refusal ≡ 0) × ((unpacked r last).written ≡ n) × (last ≡ over (text (word_of n word)) room.now)
 unpack-right κs word n room a r last h =
     let e = h ∙ unpack-outcome a in
     (ap (λ (o : Unpacked). o.refusal) e, ap (λ (o : Unpacked). o.written) e, ap (λ (o : Unpacked). o.room) e)

@@ -1,7 +1,11 @@
 -- The contracts of `powers` take every input, and determine their outcomes: any two that one allows are equal.
 -- Assumes nothing.
+use mathlib.Core.List.{[], ◌∷◌, ◌++◌}
 use mathlib.Core.Path.{refl, sym, ◌∙◌}
+use Rattle.definitions.specs.Refusals.{bad_key, bad_word}
+use Rattle.definitions.specs.Outcomes.{order_grounds}
 use Rattle.laws.specs.Promises.{TakesAll, Determines}
+use Rattle.refusals.specs.Numbers.{same-refused}
 use Rattle.powers.proofs.lesser.Kinds as lesser-kinds
 use Rattle.powers.proofs.lesser.Reads as lesser-reads
 use Rattle.powers.proofs.order_refusal.Kinds as order-refusal-kinds
@@ -45,13 +49,15 @@ pub order-refusal-takes-all : TakesAll order-refusal-kinds.ps order-refusal-read
 order-refusal-takes-all κs args = tt
 
 pub order-refusal-determined : Determines order-refusal-kinds.ps order-refusal-kinds.r order-refusal-reads.Post
-order-refusal-determined κs args a b x y h g = (h ∙ sym g, refl)
+order-refusal-determined κs args a b x y h g =
+    (same-refused (order_grounds args.0 args.1.0 (bad_key args.1.0 args.1.1.0)) refl a b h g, refl)
 
 pub word-refusal-takes-all : TakesAll word-refusal-kinds.ps word-refusal-reads.Asked
 word-refusal-takes-all κs args = tt
 
 pub word-refusal-determined : Determines word-refusal-kinds.ps word-refusal-kinds.r word-refusal-reads.Post
-word-refusal-determined κs args a b x y h g = (h ∙ sym g, refl)
+word-refusal-determined κs args a b x y h g =
+    (same-refused (order_grounds args.0 args.1.0 (bad_key args.1.0 args.1.1.0) ++ (bad_word args.1.1.1.0 args.1.1.1.1.0 ∷ [])) refl a b h g, refl)
 
 pub sign-takes-all : TakesAll sign-kinds.ps sign_reads.Asked
 sign-takes-all κs args = tt

@@ -7,8 +7,12 @@ ghost use Rattle.definitions.specs.Lists.{tabulate};
 ghost use Rattle.definitions.specs.Refusals.{refusal, bad_key, bad_word};
 ghost use Rattle.definitions.specs.Outcomes.{order_grounds};
 ghost use Rattle.laws.specs.Rules.{sign as sign_of};
+ghost use Rattle.refusals.specs.Numbers.{refusal_in};
 ghost use Rattle.powers.specs.Powers.{power_outcome};
 ghost use Rattle.powers.specs.Signs.{signed};
+
+use refusals::Refusal;
+use std::cmp::Ordering;
 
 // The powers of four from 0 to 31.
 const POWERS: [u64; 32] = [
@@ -68,27 +72,14 @@ pub fn power(n: u64) -> u64
 pub fn lesser(a: u64, b: u64) -> u64
     ensures { result ≡ min a b }
 {
-    if b < a { b } else { a }
+    a.min(b)
 }
 
 // How one number stands against another.
-pub const BELOW: u8 = 0;
-
-pub const EQUAL: u8 = 1;
-
-pub const ABOVE: u8 = 2;
-
-// The sign of one number against another.
-pub fn sign(x: u64, y: u64) -> u8
+pub fn sign(x: u64, y: u64) -> Ordering
     ensures { result ≡ signed (sign_of x y) }
 {
-    if x < y {
-        return BELOW;
-    }
-    if x == y {
-        return EQUAL;
-    }
-    ABOVE
+    x.cmp(&y)
 }
 
 // Whether a word is too large for n letters.
@@ -101,32 +92,29 @@ pub fn too_large(n: u64, word: u64) -> bool
     power(n) <= word
 }
 
-// The refusal of what every keyed operation takes: 1, 2 or 3, or 0 for none.
-pub fn order_refusal(k: u64, m: u64, key: u64) -> u64
-    ensures { result ≡ refusal (order_grounds k m (bad_key m key)) }
+// Refuses what every keyed operation refuses: 1, 2 or 3.
+pub fn order_refusal(k: u64, m: u64, key: u64) -> Result<(), Refusal>
+    ensures { refusal_in result ≡ refusal (order_grounds k m (bad_key m key)) }
 {
     if (k == 0) | (31 < k) {
-        return 1;
+        return Err(Refusal::K);
     }
     if (m == 0) | (k < m) {
-        return 2;
+        return Err(Refusal::M);
     }
     if too_large(m, key) {
-        return 3;
+        return Err(Refusal::Key);
     }
-    0
+    Ok(())
 }
 
-// The refusal of k, m and the key, or 4 where a word is too large for n letters, or 0 for none.
-pub fn word_refusal(k: u64, m: u64, key: u64, n: u64, word: u64) -> u64
-    ensures { result ≡ refusal (order_grounds k m (bad_key m key) ++ (bad_word n word ∷ [])) }
+// Refuses the same, or else a word that is too large for n letters: 4.
+pub fn word_refusal(k: u64, m: u64, key: u64, n: u64, word: u64) -> Result<(), Refusal>
+    ensures { refusal_in result ≡ refusal (order_grounds k m (bad_key m key) ++ (bad_word n word ∷ [])) }
 {
-    let refusal = order_refusal(k, m, key);
-    if refusal != 0 {
-        return refusal;
-    }
+    order_refusal(k, m, key)?;
     if too_large(n, word) {
-        return 4;
+        return Err(Refusal::Word);
     }
-    0
+    Ok(())
 }

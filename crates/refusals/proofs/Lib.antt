@@ -1,0 +1,2 @@
+-- Determined    the contracts take every input and determine the outcomes
+pub mod Determined
