@@ -10,19 +10,20 @@ use borrow.Author.Tests.{lt-leb}
 use lib.Dec.{leb}
 use lib.ListN.{length, get_or}
 use lib.Seq.{sets}
+use Rattle.std.proofs.Common.{Ordering, Less, Equal}
 use Rattle.definitions.specs.Words.{Word, letters}
 use Rattle.laws.specs.Numbers.{row-agree}
 use Rattle.laws.specs.Orders.{Ranking}
 use Rattle.laws.specs.States.{first, next, longest-le}
 use Rattle.laws.specs.Falls.{fall, fallen, fall-le, fall-by-next}
 use Rattle.laws.specs.Bans.{never, ban, low_by}
-use Rattle.states.specs.Grids.{grid, length-grid, grid-row, grid-at}
+use Rattle.states.specs.Grids.{grid, grid-row, grid-at}
 use Rattle.states.specs.Tables.{row_of, linked_row, mark_at, next_at, ban_at, own_at, own-lt, AlphabetsOf, Unlinked, LinksOf}
 use Rattle.states.proofs.Rows.{written, written_all, write-row}
 use Rattle.states.proofs.Marks.{at-fall, next-by-mark, ban-by-mark}
 
 -- the special alphabets of a word, where the tables are as they were
-pub alphabets-kept : {ρ : Ranking} {w : Word} {m : ℕ} {own marks own₀ marks₀ : List ℕ} → own ≡ own₀ → marks ≡ marks₀
+pub alphabets-kept : {ρ : Ranking} {w : Word} {m : ℕ} {own own₀ : List ℕ} {marks marks₀ : List Ordering} → own ≡ own₀ → marks ≡ marks₀
     → AlphabetsOf ρ w m own₀ marks₀ → AlphabetsOf ρ w m own marks
 alphabets-kept e f a = rw (e, f) a
 
@@ -54,16 +55,13 @@ fallen-most w zero b = omega arith
 fallen-most w (suc i) b = longest-le w (length w) (b ∷ first w (fall w (suc i)))
 
 -- what is read at state i lies in the tables
-pub record Going (m i now : ℕ) (own marks nexts bans : List ℕ) : Type 0 where
+pub record Going (m i now : ℕ) (own nexts : List ℕ) : Type 0 where
   pub few : m ≤ 31
   pub low : now < 32
   pub letter : get_or own i 0 < 4
   pub after : get_or nexts (4 * now + get_or own i 0) 0 ≤ 31
-  pub mark_long : length marks ≡ 128
-  pub next_long : length nexts ≡ 128
-  pub ban_long : length bans ≡ 128
 
-module _ {ρ : Ranking} {w : Word} {m : ℕ} {own marks : List ℕ} (a : AlphabetsOf ρ w m own marks) {i now : ℕ} {nexts bans : List ℕ}
+module _ {ρ : Ranking} {w : Word} {m : ℕ} {own : List ℕ} {marks : List Ordering} (a : AlphabetsOf ρ w m own marks) {i now : ℕ} {nexts bans : List ℕ}
     (r : Reached ρ w i now nexts bans) (h : i ≤ m) where
   -- state i is one of w
   inside : i ≤ length w
@@ -85,19 +83,16 @@ module _ {ρ : Ranking} {w : Word} {m : ℕ} {own marks : List ℕ} (a : Alphabe
       ∙ rw (own_at a.word i row_here, r.falls inside) (ap (λ (g : ℕ → ℕ). g (get_or w i 0)) (at-fall w 0 (next w) i inside))
 
   -- state i can be gone through
-  pub going : Going m i now own marks nexts bans
+  pub going : Going m i now own nexts
   going = record {
     few = a.word.few;
     low = small;
     letter = own-lt a.word i row_here;
     after = omega (arith, after_is, fallen-most w i (get_or w i 0), a.word.long, a.word.few);
-    mark_long = ap length a.ranks ∙ length-grid (mark_at ρ w);
-    next_long = ap length r.next_rows ∙ length-grid (written i (λ b. 0) (next_at w));
-    ban_long = ap length r.ban_rows ∙ length-grid (written i (λ b. never) (ban_at ρ w));
   }
 
   -- the marks of state i
-  marks-here : {row : List ℕ} → row ≡ row_of i marks → row ≡ map (mark_at ρ w i) letters
+  marks-here : {row : List Ordering} → row ≡ row_of i marks → row ≡ map (mark_at ρ w i) letters
   marks-here e = e ∙ ap (row_of i) a.ranks ∙ grid-row (mark_at ρ w) i row_here
 
   -- the row of the state that it falls to
@@ -108,16 +103,16 @@ module _ {ρ : Ranking} {w : Word} {m : ℕ} {own marks : List ℕ} (a : Alphabe
       ∙ rw (r.falls inside) (ap (λ (g : ℕ → ℕ). map g letters) (at-fall w d f i inside))
 
   -- the row of next states of state i, by its marks and by that of the state that it falls to
-  next_here : {here : List ℕ} → here ≡ row_of i marks → linked_row 1 (i + 1) here (row_of now nexts) ≡ map (next_at w i) letters
+  next_here : {here : List Ordering} → here ≡ row_of i marks → linked_row Equal (i + 1) here (row_of now nexts) ≡ map (next_at w i) letters
   next_here p = rw (add-one, marks-here p, row-fallen 0 (next w) r.next_rows) (row-agree (λ b k. next-by-mark ρ w a.one a.word.letters i b inside k))
 
   -- and its row of bans
-  ban-here : {here : List ℕ} → here ≡ row_of i marks → linked_row 0 (m - i) here (row_of now bans) ≡ map (ban_at ρ w i) letters
+  ban-here : {here : List Ordering} → here ≡ row_of i marks → linked_row Less (m - i) here (row_of now bans) ≡ map (ban_at ρ w i) letters
   ban-here p = rw (marks-here p, row-fallen never (ban w (low_by ρ w)) r.ban_rows, ← a.word.long) (row-agree (λ b k. ban-by-mark ρ w i b inside))
 
   -- one state more
-  pub reached-more : {here nexts' bans' : List ℕ} → here ≡ row_of i marks → nexts' ≡ sets nexts (4 * i) (linked_row 1 (i + 1) here (row_of now nexts))
-      → bans' ≡ sets bans (4 * i) (linked_row 0 (m - i) here (row_of now bans)) → Reached ρ w (suc i) (get_or nexts (4 * now + get_or own i 0) 0) nexts' bans'
+  pub reached-more : {here : List Ordering} {nexts' bans' : List ℕ} → here ≡ row_of i marks → nexts' ≡ sets nexts (4 * i) (linked_row Equal (i + 1) here (row_of now nexts))
+      → bans' ≡ sets bans (4 * i) (linked_row Less (m - i) here (row_of now bans)) → Reached ρ w (suc i) (get_or nexts (4 * now + get_or own i 0) 0) nexts' bans'
   reached-more p s₁ s₂ = record {
     next_rows = s₁ ∙ write-row (λ b. 0) (next_at w) i row_here r.next_rows (next_here p);
     ban_rows = s₂ ∙ write-row (λ b. never) (ban_at ρ w) i row_here r.ban_rows (ban-here p);

@@ -55,27 +55,28 @@ module _ {A : Type 0} where
       ap (set (tabulate (written i d f) n) i) (sym (written_last d f i))
       ∙ set-tabulate (written i d f) (written (suc i) d f) n i h (written-other d f i)
 
--- n rows in a row: a grid is 32 of them
-rows : (ℕ → ℕ → ℕ) → ℕ → List ℕ
-rows f zero = []
-rows f (suc n) = map (f zero) letters ++ rows (λ i. f (suc i)) n
+module _ {A : Type 0} where
+  -- n rows in a row: a grid is 32 of them
+  rows : (ℕ → ℕ → A) → ℕ → List A
+  rows f zero = []
+  rows f (suc n) = map (f zero) letters ++ rows (λ i. f (suc i)) n
 
--- rows with one changed, where the others stay
-sets_rows : (f g : ℕ → ℕ → ℕ) (n i : ℕ) → i < n → ((j : ℕ) → (j ≡ i → ⊥) → f j ≡ g j) → sets (rows f n) (4 * i) (map (g i) letters) ≡ rows g n
-unfolding rows
-sets_rows f g zero i h k = absurd (not-suc-le-zero h)
-sets_rows f g (suc n) zero h k =
-    ap (λ (r : ℕ → ℕ → ℕ). map (g zero) letters ++ rows r n) (fun_ext (λ j. k (suc j) (suc-ne-zero j)))
-sets_rows f g (suc n) (suc i) h k =
-    let place : 4 * suc i ≡ suc (suc (suc (suc (4 * i)))) = omega arith in
-    rw place
-    (ap₂ (λ (r : ℕ → ℕ) (l : List ℕ). map r letters ++ l) (k zero (λ e. omega arith))
-    (sets_rows (λ j. f (suc j)) (λ j. g (suc j)) n i (le_of_suc-le-suc h) (λ j q. k (suc j) (λ e. q (omega arith)))))
+  -- rows with one changed, where the others stay
+  sets_rows : (f g : ℕ → ℕ → A) (n i : ℕ) → i < n → ((j : ℕ) → (j ≡ i → ⊥) → f j ≡ g j) → sets (rows f n) (4 * i) (map (g i) letters) ≡ rows g n
+  unfolding rows
+  sets_rows f g zero i h k = absurd (not-suc-le-zero h)
+  sets_rows f g (suc n) zero h k =
+      ap (λ (r : ℕ → ℕ → A). map (g zero) letters ++ rows r n) (fun_ext (λ j. k (suc j) (suc-ne-zero j)))
+  sets_rows f g (suc n) (suc i) h k =
+      let place : 4 * suc i ≡ suc (suc (suc (suc (4 * i)))) = omega arith in
+      rw place
+      (ap₂ (λ (r : ℕ → A) (l : List A). map r letters ++ l) (k zero (λ e. omega arith))
+      (sets_rows (λ j. f (suc j)) (λ j. g (suc j)) n i (le_of_suc-le-suc h) (λ j q. k (suc j) (λ e. q (omega arith)))))
 
--- one row more of a grid is written
-pub write-row : (d : ℕ → ℕ) (f : ℕ → ℕ → ℕ) (i : ℕ) {room row : List ℕ} → i < 32 → room ≡ grid (written i d f) → row ≡ map (f i) letters
-    → sets room (4 * i) row ≡ grid (written (suc i) d f)
-unfolding rows
-write-row d f i h e q =
-    ap₂ (λ (l r : List ℕ). sets l (4 * i) r) e (q ∙ ap (λ (r : ℕ → ℕ). map r letters) (sym (written_last d f i)))
-    ∙ sets_rows (written i d f) (written (suc i) d f) 32 i h (written-other d f i)
+  -- one row more of a grid is written
+  pub write-row : (d : ℕ → A) (f : ℕ → ℕ → A) (i : ℕ) {room row : List A} → i < 32 → room ≡ grid (written i d f) → row ≡ map (f i) letters
+      → sets room (4 * i) row ≡ grid (written (suc i) d f)
+  unfolding rows
+  write-row d f i h e q =
+      ap₂ (λ (l r : List A). sets l (4 * i) r) e (q ∙ ap (λ (r : ℕ → A). map r letters) (sym (written_last d f i)))
+      ∙ sets_rows (written i d f) (written (suc i) d f) 32 i h (written-other d f i)

@@ -1,6 +1,9 @@
 -- What the tables of the states of a word hold, over any ranking of the letters for each place.
 -- Assumes nothing.
 use Rattle.std.specs.Prelude.{ℕ, ◌+◌, ◌*◌, ◌≤◌, ◌<◌, Bool, true, false, cond, List, map, ◌≡◌, refl, ltb, leb, eqb, length, get_or, take, drop}
+use Rattle.std.specs.declared.cmp.Ordering.{Ordering}
+use Rattle.std.specs.declared.cmp.Ordering.TheVariants.{Less, Equal, Greater}
+use Rattle.std.specs.Ordering.{nat_cmp, ordering_index}
 use Rattle.std.proofs.Common.{sym, ap, ◌∙◌, arith, ltb-true, le-leb, ne_eqb}
 use Rattle.definitions.specs.Lists.{tabulate}
 use Rattle.definitions.specs.Words.{Word, Letters, letters}
@@ -9,50 +12,51 @@ use Rattle.laws.specs.Filters.{tabulate-at}
 use Rattle.laws.specs.Orders.{Ranking, OneToOne}
 use Rattle.laws.specs.States.{next}
 use Rattle.laws.specs.Bans.{never, ban, low_by}
-use Rattle.laws.specs.Rules.{sign, less, equal, greater}
-use Rattle.powers.specs.Signs.{signed}
 use Rattle.states.specs.Grids.{grid, grid-at}
 
--- how a rank stands beside that of w's own letter: the number of its sign
-abbrev pub mark_of : ℕ → ℕ → ℕ
-mark_of rank own = signed (sign rank own)
+-- how a rank stands beside that of w's own letter
+abbrev pub mark_of : ℕ → ℕ → Ordering
+mark_of rank own = nat_cmp rank own
 
--- a mark is 1 exactly where the ranks are equal
-pub mark-equal : (r o : ℕ) → eqb (mark_of r o) 1 ≡ eqb r o
+-- whether a mark is the one asked for
+abbrev pub is_mark : Ordering → Ordering → Bool
+is_mark mark asked = eqb (ordering_index mark) (ordering_index asked)
+
+-- a mark is Equal exactly where the ranks are equal
+pub mark-equal : (r o : ℕ) → is_mark (mark_of r o) Equal ≡ eqb r o
 mark-equal r o = go (ltb r o) (eqb r o) refl refl
   where
-    go : (s t : Bool) → ltb r o ≡ s → eqb r o ≡ t → eqb (signed (cond s less (cond t equal greater))) 1 ≡ t
+    go : (s t : Bool) → ltb r o ≡ s → eqb r o ≡ t → is_mark (cond s Less (cond t Equal Greater)) Equal ≡ t
     go true t p q = sym (ne_eqb r o (λ e. omega (arith, ltb-true r o p))) ∙ q
     go false true p q = refl
     go false false p q = refl
 
--- a mark is 0 exactly where the rank is below
-pub mark-below : (r o : ℕ) → eqb (mark_of r o) 0 ≡ ltb r o
+-- a mark is Less exactly where the rank is below
+pub mark-below : (r o : ℕ) → is_mark (mark_of r o) Less ≡ ltb r o
 mark-below r o = go (ltb r o) (eqb r o)
   where
-    go : (s t : Bool) → eqb (signed (cond s less (cond t equal greater))) 0 ≡ s
+    go : (s t : Bool) → is_mark (cond s Less (cond t Equal Greater)) Less ≡ s
     go true t = refl
     go false true = refl
     go false false = refl
 
 -- what a table holds at a letter: `held` where its mark is the one asked for, else what it holds at the state that this one falls to
-abbrev pub entry_by : ℕ → ℕ → ℕ → ℕ → ℕ
-entry_by asked held mark fallen = cond (eqb mark asked) held fallen
+abbrev pub entry_by : Ordering → ℕ → Ordering → ℕ → ℕ
+entry_by asked held mark fallen = cond (is_mark mark asked) held fallen
 
 -- a state's row, by its marks and by the row of the state that it falls to
-abbrev pub linked_row : ℕ → ℕ → List ℕ → List ℕ → List ℕ
-linked_row asked held marks fallen = map (λ b. entry_by asked held (get_or marks b 0) (get_or fallen b 0)) letters
+abbrev pub linked_row : Ordering → ℕ → List Ordering → List ℕ → List ℕ
+linked_row asked held marks fallen = map (λ b. entry_by asked held (get_or marks b Greater) (get_or fallen b 0)) letters
 
 -- the row of a state
-abbrev pub row_of : ℕ → List ℕ → List ℕ
+abbrev pub row_of : {A : Type 0} → ℕ → List A → List A
 row_of i table = take 4 (drop (4 * i) table)
 
 -- what writing row i by that of another state needs
-pub record Linking (held fall i : ℕ) (table : List ℕ) : Type 0 where
+pub record Linking (held fall i : ℕ) : Type 0 where
   pub small : held ≤ 32
   pub from : fall < 32
   pub to : i < 32
-  pub long : length table ≡ 128
 
 -- ---- the tables
 
@@ -61,8 +65,8 @@ abbrev pub own_of : Word → List ℕ
 own_of w = tabulate (λ p. get_or w p 0) 32
 
 -- the mark of a letter at a place; past the end of w all letters rank above
-abbrev pub mark_at : Ranking → Word → ℕ → ℕ → ℕ
-mark_at ρ w p b = cond (ltb p (length w)) (mark_of (ρ p b) (ρ p (get_or w p 0))) 2
+abbrev pub mark_at : Ranking → Word → ℕ → ℕ → Ordering
+mark_at ρ w p b = cond (ltb p (length w)) (mark_of (ρ p b) (ρ p (get_or w p 0))) Greater
 
 -- the state after a letter; 0 where there is no state i
 abbrev pub next_at : Word → ℕ → ℕ → ℕ
@@ -116,7 +120,7 @@ module _ {w : Word} {m : ℕ} {own : List ℕ} (l : LettersOf w m own) where
       ∙ ap (λ (t : Bool). cond t (ban w (low_by ρ w) i b) never) (le-leb i (length w) (omega (arith, l.long)))
 
 -- the special alphabets of a word of m letters
-pub record AlphabetsOf (ρ : Ranking) (w : Word) (m : ℕ) (own marks : List ℕ) : Type 0 where
+pub record AlphabetsOf (ρ : Ranking) (w : Word) (m : ℕ) (own : List ℕ) (marks : List Ordering) : Type 0 where
   pub word : LettersOf w m own
   pub one : OneToOne ρ
   pub ranks : marks ≡ grid (mark_at ρ w)

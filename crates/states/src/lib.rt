@@ -13,56 +13,61 @@
 //                       fewest letters more, so the longest tied state at which b ranks below decides
 #![tactic(auto)]
 
-ghost use Rattle.std.specs.Prelude.{◌≡◌, ◌*◌, ◌≤◌, ◌<◌, length};
+ghost use Rattle.std.specs.Prelude.{◌≡◌, ◌*◌, ◌≤◌, ◌<◌};
 ghost use Rattle.std.proofs.lemmas.List.Edits.{sets};
 ghost use Rattle.definitions.specs.Words.{word as word_of};
 ghost use Rattle.laws.specs.Orders.{key_ranking};
 ghost use Rattle.states.specs.Tables.{row_of, entry_by, linked_row, Linking, Known, All, AlphabetsOf, Unlinked, LinksOf};
 ghost use Rattle.states.specs.Answers.{four_of, prepare_outcome, prepared};
 
+use refusals::Refusal;
+use std::cmp::Ordering;
+
 // More letters than are ever left.
-const NEVER: u8 = 64;
+pub const NEVER: u8 = 64;
 
-// A row of a table: one byte for each letter.
+// A row of a table: one entry for each letter.
 #[derive(Clone, Copy)]
-struct Four {
-    a: u8,
-    c: u8,
-    g: u8,
-    t: u8,
+struct Four<E> {
+    a: E,
+    c: E,
+    g: E,
+    t: E,
 }
 
-// The row of a state.
-fn row(table: &[u8; 128], state: u64) -> Four
-    requires { (state < 32) × (length table.now ≡ 128) }
-    ensures { four_of result ≡ row_of state table.now }
-{
-    let at = (4 * state) as usize;
-    Four {
-        a: table[at],
-        c: table[at + 1],
-        g: table[at + 2],
-        t: table[at + 3],
+impl<E: Copy> Four<E> {
+    // The row of a state.
+    fn at(state: u64, table: &[E; 128]) -> Self
+        requires { state < 32 }
+        ensures { four_of result ≡ row_of state table.now }
+    {
+        let place = (4 * state) as usize;
+        Four {
+            a: table[place],
+            c: table[place + 1],
+            g: table[place + 2],
+            t: table[place + 3],
+        }
     }
-}
 
-// Writes the row of a state.
-fn put(row: Four, state: u64, table: &mut [u8; 128])
-    requires { (state < 32) × (length table.old ≡ 128) }
-    ensures { table.new ≡ sets table.old (4 * state) (four_of row) }
-{
-    let at = (4 * state) as usize;
-    table[at] = row.a;
-    table[at + 1] = row.c;
-    table[at + 2] = row.g;
-    table[at + 3] = row.t;
+    // Writes the row of a state.
+    fn put(self, state: u64, table: &mut [E; 128])
+        requires { state < 32 }
+        ensures { table.new ≡ sets table.old (4 * state) (four_of self) }
+    {
+        let place = (4 * state) as usize;
+        table[place] = self.a;
+        table[place + 1] = self.c;
+        table[place + 2] = self.g;
+        table[place + 3] = self.t;
+    }
 }
 
 // The states of a word: the special alphabets, the next states and the bans.
 #[derive(Clone, Copy)]
 pub struct States {
     pub own: [u8; 32],
-    pub marks: [u8; 128],
+    pub marks: [Ordering; 128],
     pub next: [u8; 128],
     pub ban: [u8; 128],
 }
@@ -75,53 +80,48 @@ fn special_alphabets(m: u64, key: u64, word: u64) -> States
 {
     let mut s = States {
         own: [0; 32],
-        marks: [powers::ABOVE; 128],
+        marks: [Ordering::Greater; 128],
         next: [0; 128],
         ban: [NEVER; 128],
     };
-    let mut p: u64 = 0;
-    while p < m {
+    for p in 0..m {
         let shift = 2 * (m - 1 - p);
         let letter = (word >> shift) % 4;
         let key_letter = (key >> shift) % 4;
         let rank = letter ^ key_letter;
         s.own[p as usize] = letter as u8;
         let marked = Four {
-            a: powers::sign(0 ^ key_letter, rank),
-            c: powers::sign(1 ^ key_letter, rank),
-            g: powers::sign(2 ^ key_letter, rank),
-            t: powers::sign(3 ^ key_letter, rank),
+            a: (0 ^ key_letter).cmp(&rank),
+            c: (1 ^ key_letter).cmp(&rank),
+            g: (2 ^ key_letter).cmp(&rank),
+            t: (3 ^ key_letter).cmp(&rank),
         };
-        put(marked, p, &mut s.marks);
-        p += 1;
+        marked.put(p, &mut s.marks);
     }
     s
 }
 
 // What a table holds at a letter: `held` where the letter has the mark that is asked for, else what it holds at the state that this one falls to.
-fn entry(asked: u8, held: u64, mark: u8, fallen: u8) -> u8
+fn entry(asked: Ordering, held: u64, mark: Ordering, fallen: u8) -> u8
     requires { held ≤ 32 }
     ensures { result ≡ entry_by asked held mark fallen }
 {
-    if mark == asked {
-        return held as u8;
-    }
-    fallen
+    if mark == asked { held as u8 } else { fallen }
 }
 
 // Writes the row of state i, by the marks of its letters and by the row of the state that it falls to.
-fn link(asked: u8, held: u64, marks: Four, fall: u64, i: u64, table: &mut [u8; 128])
-    requires { Linking held fall i table.old }
+fn link(asked: Ordering, held: u64, marks: Four<Ordering>, fall: u64, i: u64, table: &mut [u8; 128])
+    requires { Linking held fall i }
     ensures { table.new ≡ sets table.old (4 * i) (linked_row asked held (four_of marks) (row_of fall table.old)) }
 {
-    let fallen = row(table, fall);
+    let fallen = Four::at(fall, table);
     let here = Four {
         a: entry(asked, held, marks.a, fallen.a),
         c: entry(asked, held, marks.c, fallen.c),
         g: entry(asked, held, marks.g, fallen.g),
         t: entry(asked, held, marks.t, fallen.t),
     };
-    put(here, i, table);
+    here.put(i, table);
 }
 
 // Goes through the states from 0 to m. A state's rows follow from its marks and from the rows of the state that it falls to; state 0 falls
@@ -132,45 +132,22 @@ fn link_states(m: u64, mut s: States) -> States
     ensures { (result.own ≡ s.own) × (result.marks ≡ s.marks) × All (λ ρ w. AlphabetsOf ρ w m s.own s.marks) (λ ρ w. LinksOf ρ w result.next result.ban) }
 {
     let mut fall: u64 = 0;
-    let mut i: u64 = 0;
-    while i <= m {
-        let here = row(&s.marks, i);
+    for i in 0..m + 1 {
+        let here = Four::at(i, &s.marks);
         let letter = s.own[i as usize] as u64;
         let after = s.next[(4 * fall + letter) as usize] as u64;
-        link(powers::EQUAL, i + 1, here, fall, i, &mut s.next);
-        link(powers::BELOW, m - i, here, fall, i, &mut s.ban);
+        link(Ordering::Equal, i + 1, here, fall, i, &mut s.next);
+        link(Ordering::Less, m - i, here, fall, i, &mut s.ban);
         fall = after;
-        i += 1;
     }
     s
 }
 
-// What preparing answers: the refusal, the states.
-#[derive(Clone, Copy)]
-pub struct Prepared {
-    pub refusal: u64,
-    pub states: States,
-}
-
 // The states of a word under a key. Refusals 1 to 4.
-pub fn prepare(k: u64, m: u64, key: u64, word: u64) -> Prepared
+pub fn prepare(k: u64, m: u64, key: u64, word: u64) -> Result<States, Refusal>
     ensures { prepared result ≡ prepare_outcome k m key word }
 {
-    let refusal = powers::word_refusal(k, m, key, m, word);
-    if refusal != 0 {
-        return Prepared {
-            refusal,
-            states: States {
-                own: [0; 32],
-                marks: [0; 128],
-                next: [0; 128],
-                ban: [0; 128],
-            },
-        };
-    }
+    powers::word_refusal(k, m, key, m, word)?;
     let unlinked = special_alphabets(m, key, word);
-    Prepared {
-        refusal: 0,
-        states: link_states(m, unlinked),
-    }
+    Ok(link_states(m, unlinked))
 }
