@@ -1,26 +1,25 @@
 -- Laws of listing: the k-mers under a beginning, by their next letter, and room into which they are written.
 -- Assumes nothing.
-use Prim.Native.Nat.{ℕ, zero, suc, ◌+◌, ◌-◌, ◌*◌, ◌%◌, ◌^◌, ◌≤◌, ◌<◌, min}
+use Prim.Native.Nat.{ℕ, suc, ◌+◌, ◌-◌, ◌*◌, ◌%◌, ◌^◌, ◌≤◌, ◌<◌, min}
 use mathlib.Core.Bool.{Bool, true, false, cond}
 use mathlib.Core.List.Memᴰ
 use mathlib.Core.List.{List, [], ◌∷◌, ◌++◌, map, map-map, append-nil, Memᴰ}
 use mathlib.Core.Logic.{⊎_elim}
 use mathlib.Core.Path.{◌≡◌, sym, ap, ap₂, fun_ext, ◌∙◌}
-use native.Mathlib.Nat.{sub-zero, add_assoc, suc-mul, add-mul, mul_assoc, mul_left_comm, mul-le-mul_right, pow-succ', pow-le-pow_right, one-le-pow, mod-lt, zero-lt-suc}
+use native.Mathlib.Nat.{add_assoc, suc-mul, add-mul, mul_assoc, mul_left_comm, mul-le-mul_right, pow-succ', pow-le-pow_right, one-le-pow, mod-lt}
 use native.Mathlib.Numerals.{add-one}
 use native.Mathlib.Omega.{arith}
 use lib.ListN.{length, get_or, take, drop, set, length-append, length-take, length-drop, length-map, drop_of_length-le}
 use lib.Pow.{pow-add}
-use lib.Seq.{take-nil, drop-nil, take-suc}
+use lib.Seq.{take-nil, take-suc}
 use Rattle.definitions.specs.Lists.{filter, tabulate, over}
 use Rattle.definitions.specs.Words.{Word, letters, words, val}
 use Rattle.laws.specs.Numbers.{letters-at, four-pos}
 use Rattle.laws.specs.Filters.{filter-full, take-least, part-append, joined, joined-append, map-joined, length-tabulate, tabulate-at, tabulate-agree, drop-tabulate, map-tabulate}
 use Rattle.laws.specs.Counting.{map-agree, filter-words, length-words, words-numbers}
 use Rattle.laws.specs.Walks.{below-cond, accepts, rest, accepts-split, rest-count, ways-count, ways-le}
-use Rattle.laws.specs.Rooms.{over-append, length_over, over_to, length-over_to, over_to-more, rest-whole}
-use Rattle.shelves.proofs.Ways.{live-lt}
-use Rattle.shelves.specs.Descents.{allowed, leads, met, ways_from, ways_below, completing, Ready, numbered, under, Listed, Descending, AtOnce, Longer}
+use Rattle.laws.specs.Rooms.{over-append, length_over, over_to, over_to-more, rest-whole}
+use Rattle.shelves.specs.Descents.{allowed, leads, met, ways_from, ways_below, completing, Tables, Ready, numbered, under, Listed, Complete, Reached, AtOnce, Longer}
 
 -- ---- room that is listed into
 
@@ -30,18 +29,6 @@ listed-front new old {room} {n} e q =
     let size : n ≡ length (take (length old) new) = omega (arith, length-take (length old) new) in
     let part : take n new ≡ take (length old) new = ap (λ (i : ℕ). take i new) e ∙ take-least new (length old) in
     record { count = size; fills = q ∙ ap₂ (λ (u : List ℕ) (i : ℕ). u ++ drop i old) part size }
-
--- no more is written than the room takes
-listed-fits : {from old room : List ℕ} {skip written : ℕ} → Listed from skip old room written → written ≤ length old
-listed-fits {from} {old} {room} {skip} {written} l = omega (arith, l.count, length-take (length old) (drop skip from))
-
--- into no room, nothing is written
-pub listed-full : {new room : List ℕ} {skip : ℕ} → length room ≡ 0 → Listed new skip room room 0
-listed-full e = record { count = rw e; fills = rw e }
-
--- of nothing, nothing is written
-listed-none : (skip : ℕ) (room : List ℕ) → Listed [] skip room room 0
-listed-none skip room = record { count = rw (drop-nil skip, take-nil (length room)); fills = rw (drop-nil skip, take-nil (length room)) }
 
 module _ {from : List ℕ} (more : List ℕ) {old room : List ℕ} {skip written : ℕ} (l : Listed from skip old room written) where
   -- behind what is written of a list, what follows it is written
@@ -78,11 +65,6 @@ pub record Running (first count n : ℕ) (old room : List ℕ) (i : ℕ) : Type 
   pub writes : room ≡ over_to i (tabulate (λ j. first + j) count) old
 
 module _ {first count n : ℕ} {old room : List ℕ} {i : ℕ} (r : Running first count n old room i) where
-  -- the room stays as long
-  pub running-long : length room ≡ length old
-  running-long =
-      length-over_to (tabulate (λ j. first + j) count) old {i = i} r.writes (rw length-tabulate (omega (arith, r.least, r.within))) (omega (arith, r.least, r.within))
-
   -- one more is written
   pub running_more : i < n → {j : ℕ} → j ≡ suc i → Running first count n old (set room i (first + i)) j
   running_more h e =
@@ -190,28 +172,8 @@ pub record Going (moves ban : List ℕ) (left s begun skip : ℕ) (old room : Li
   pub passes : passed ≡ skip - length (before moves ban left s begun letter)
   pub lists : Listed (before moves ban left s begun letter) skip old room written
 
--- no letter was looked at yet
-pub going-first : (moves ban : List ℕ) (left s begun skip : ℕ) (room : List ℕ) → Going moves ban left s begun skip room room skip 0 0
-going-first moves ban left s begun skip room = record { few = omega arith; passes = sym (sub-zero skip); lists = listed-none skip room }
-
 module _ {moves ban : List ℕ} {left s begun skip : ℕ} {old room : List ℕ} {passed written letter : ℕ}
     (g : Going moves ban left s begun skip old room passed written letter) where
-  -- what is written fits into the room
-  pub going-fits : written ≤ length old
-  going-fits = listed-fits g.lists
-
-  -- the room stays as long
-  pub going-long : length room ≡ length old
-  going-long =
-      let new : List ℕ = take (length old) (drop skip (before moves ban left s begun letter)) in
-      ap length g.lists.fills ∙ length_over new old (omega (arith, length-take (length old) (drop skip (before moves ban left s begun letter))))
-
-  -- what is written behind it fits too
-  pub going-room : {after : List ℕ} {n : ℕ}
-      → Listed (under moves ban (left - 1) (leads moves s letter) (4 * begun + letter)) passed (take (length room - written) (drop written room)) after n
-      → written + n ≤ length old
-  going-room l = omega (arith, going-fits, going-long, listed-fits l, length-take (length room - written) (drop written room))
-
   module _ {ways : ℕ} (few : letter < 4) (known : ways ≡ ways_below moves ban s (left - 1) letter) where
     -- those under a letter
     abbrev here : List ℕ
@@ -257,11 +219,6 @@ module _ {moves ban : List ℕ} {left s begun skip : ℕ} {old room : List ℕ} 
   pub going-all : 0 < left → 4 ≤ letter → Listed (under moves ban left s begun) skip old room written
   going-all h k = rw (← before-all moves ban left s begun {b = letter} h (omega (arith, g.few))) g.lists
 
--- what is written at once is listed
-pub listed-once : {moves ban : List ℕ} {left state begun skip first count written : ℕ} {old room : List ℕ} → AtOnce moves ban left state begun skip first count
-    → 0 < count → Listed (tabulate (λ i. first + i) count) 0 old room written → Listed (under moves ban left state begun) skip old room written
-listed-once a h l = record { count = rw (a.some h) l.count; fills = rw (a.some h) l.fills }
-
 -- ---- descending
 
 -- the numbers under a beginning stay below 4^31
@@ -284,15 +241,15 @@ begun-low left begun b o h k l =
     let most : 4 ^ (31 - (left - 1)) ≤ 4 ^ 31 = pow-le-pow_right four-pos {j = 31} (omega arith) in
     omega (arith, most, begun-small left begun b o h k l)
 
--- where some way is left, and not all, some letter is left
-some_left : (moves ban : List ℕ) (s left skip : ℕ) → skip < ways_from moves ban s left → (ways_from moves ban s left ≡ 4 ^ left → ⊥) → 0 < left
-some_left moves ban s zero skip h n = absurd (n (omega (arith, ways-le (allowed ban) (leads moves) met s 0)))
-some_left moves ban s (suc left) skip h n = zero-lt-suc left
+module _ {k m word left state begun skip : ℕ} {moves ban ways powers : List ℕ} (t : Tables m moves ban) (d : Complete k m word moves ban ways powers)
+    (q : Reached k m left state begun skip moves ban) where
+  -- so many letters are few
+  left-few : left ≤ 31
+  left-few = omega (arith, d.few, q.few)
 
-module _ {m word left state begun skip : ℕ} {moves ban ways powers : List ℕ} (d : Descending m word left state begun skip moves ban ways powers) where
   -- the power that is read
-  power-is : get_or powers left 0 ≡ 4 ^ left
-  power-is = d.powers_are.each left (omega (arith, d.few))
+  pub power-is : get_or powers left 0 ≡ 4 ^ left
+  power-is = d.powers_are.each left (omega (arith, left-few))
 
   -- it is not 0
   pub power-some : 0 < get_or powers left 0
@@ -300,113 +257,82 @@ module _ {m word left state begun skip : ℕ} {moves ban ways powers : List ℕ}
 
   -- the ways that are read
   count-is : get_or ways (64 * left + state) 0 ≡ ways_from moves ban state left
-  count-is = d.known.right left state (omega arith) d.live
+  count-is = d.known.right left state (omega (arith, q.few)) q.live
 
   -- one lies behind those to be passed over
   pub count-more : skip < get_or ways (64 * left + state) 0
-  count-more = rw count-is d.behind
-
-  -- the state is below 64
-  state-lt : state < 64
-  state-lt = live-lt d.tables.few d.live
-
-  -- the place of the ways is one of the table
-  pub count-inside : 64 * left + state < 2048
-  count-inside = omega (arith, d.few, state-lt)
+  count-more = rw count-is q.behind
 
   -- the numbers under the beginning stay below 4^31
   numbers_fit : begun * 4 ^ left + 4 ^ left ≤ 4 ^ 31
-  numbers_fit = begun-fits left begun d.few d.small
+  numbers_fit = begun-fits left begun left-few q.small
 
   -- so does the number with which those that are listed start
   pub start-lt : begun * get_or powers left 0 + skip < 4 ^ 31
-  start-lt = rw power-is (omega (arith, numbers_fit, d.behind, ways-le (allowed ban) (leads moves) met state left))
-
-  -- where not every word completes the beginning, some letter is left: nothing is written at once
-  pub once-none : (get_or ways (64 * left + state) 0 ≡ get_or powers left 0 → ⊥) → AtOnce moves ban left state begun skip 0 0
-  once-none n =
-      record {
-        none = λ e. some_left moves ban state left skip d.behind (λ r. n (count-is ∙ r ∙ sym power-is));
-        some = λ h. absurd (omega arith);
-        fits = omega arith;
-      }
+  start-lt = rw power-is (omega (arith, numbers_fit, q.behind, ways-le (allowed ban) (leads moves) met state left))
 
   -- where every word completes it, its numbers follow one another
-  pub once-free : {first count : ℕ} → get_or ways (64 * left + state) 0 ≡ get_or powers left 0 → first ≡ begun * get_or powers left 0 + skip
-      → count ≡ get_or ways (64 * left + state) 0 - skip → AtOnce moves ban left state begun skip first count
-  once-free e p q =
+  pub once-free : get_or ways (64 * left + state) 0 ≡ get_or powers left 0
+      → AtOnce (under moves ban left state begun) skip (begun * get_or powers left 0 + skip) (get_or ways (64 * left + state) 0 - skip)
+  once-free e =
       let all : get_or ways (64 * left + state) 0 ≡ 4 ^ left = e ∙ power-is in
       let same : drop skip (under moves ban left state begun) ≡ tabulate (λ i. (begun * 4 ^ left + skip) + i) (4 ^ left - skip) =
       ap (drop skip) (under-free moves ban left state begun (sym count-is ∙ all))
       ∙ drop-tabulate (λ i. begun * 4 ^ left + i) (4 ^ left) skip
       ∙ tabulate-agree (4 ^ left - skip) (λ i h. sym (add_assoc (begun * 4 ^ left) skip i)) in
-      rw (p, q)
-      (record {
-        none = λ h. absurd (omega (arith, count-more));
-        some = λ h. rw (all, power-is) same;
-        fits = rw power-is (omega (arith, all, count-more, numbers_fit));
-      })
+      record { all = rw (all, power-is) same; fits = rw power-is (omega (arith, all, count-more, numbers_fit)) }
 
   -- where just the rest of the word is left
   module _ (e : state + left ≡ m) where
     -- it alone completes the beginning
     rest-alone : (map val (completing moves ban state left) ≡ word % 4 ^ left ∷ []) × (skip ≡ 0)
     rest-alone =
-        let some : 0 < left = ⊎_elim (λ l. omega arith) (λ l. omega (arith, d.tables.few)) d.live in
-        let one = d.rest state left e some (omega (arith, d.behind)) in
-        (one, omega (arith, d.behind, ways-count (allowed ban) (leads moves) met state left, length-map (completing moves ban state left) val, ap length one))
+        let some : 0 < left = ⊎_elim (λ l. omega arith) (λ l. omega (arith, t.few)) q.live in
+        let one = d.rest state left e some (omega (arith, q.behind)) in
+        (one, omega (arith, q.behind, ways-count (allowed ban) (leads moves) met state left, length-map (completing moves ban state left) val, ap length one))
 
     -- its number is below 4^31
     pub rest_lt : begun * get_or powers left 0 + skip + word % get_or powers left 0 < 4 ^ 31
     rest_lt = rw power-is (omega (arith, rest-alone.1, numbers_fit, mod-lt word {m = 4 ^ left} (one-le-pow left 4 four-pos)))
 
     -- it is one number
-    pub once-rest : {first count : ℕ} → first ≡ begun * get_or powers left 0 + skip + word % get_or powers left 0 → count ≡ 1
-        → AtOnce moves ban left state begun skip first count
-    once-rest p q =
+    pub once-rest : AtOnce (under moves ban left state begun) skip (begun * get_or powers left 0 + skip + word % get_or powers left 0) 1
+    once-rest =
         let start : begun * get_or powers left 0 + skip + word % get_or powers left 0 + 0 ≡ begun * 4 ^ left + word % 4 ^ left =
         rw power-is (omega (arith, rest-alone.1)) in
         let none_passed : drop skip (under moves ban left state begun) ≡ under moves ban left state begun = ap (λ (i : ℕ). drop i (under moves ban left state begun)) rest-alone.1 in
-        rw (p, q)
-        (record {
-          none = λ h. absurd (omega arith);
-          some = λ h. none_passed ∙ under_one moves ban left state begun rest-alone.0 ∙ ap (λ (x : ℕ). x ∷ []) (sym start);
+        record {
+          all = none_passed ∙ under_one moves ban left state begun rest-alone.0 ∙ ap (λ (x : ℕ). x ∷ []) (sym start);
           fits = omega (arith, rest_lt);
-        })
+        }
 
   -- what reading the ways under a letter asks
-  pub ready : 0 < left → Ready left state moves ban ways
+  pub ready : 0 < left → Ready m left state moves ban ways
   ready h =
       record {
-        m = m;
-        tables = d.tables;
-        known = record { long = d.known.long; right = λ r s l k. d.known.right r s (omega arith) k };
-        live = d.live;
+        known = record { long = d.known.long; right = λ r s l u. d.known.right r s (omega (arith, q.few)) u };
+        live = q.live;
         some = h;
-        few = d.few;
+        few = left-few;
       }
 
   -- what going one letter further down asks
-  pub longer-ready : {b : ℕ} → 0 < left → b < 4 → Longer left state begun b moves
+  pub longer-ready : {b : ℕ} → 0 < left → b < 4 → Longer m left state begun b
   longer-ready {b} o h =
       record {
+        live = q.live;
+        letter_bound = h;
         some = o;
-        place = omega (arith, state-lt);
-        low = live-lt d.tables.few (d.tables.lead state b d.live h);
-        small = begun-low left begun b o d.few d.small h;
+        small = begun-low left begun b o left-few q.small h;
       }
 
   -- one letter further down
   pub descend : {b passed count : ℕ} → 0 < left → b < 4 → count ≡ ways_below moves ban state (left - 1) b → passed < count
-      → Descending m word (left - 1) (leads moves state b) (4 * begun + b) passed moves ban ways powers
-  descend {b} {passed} o h e k =
+      → Reached k m (left - 1) (leads moves state b) (4 * begun + b) passed moves ban
+  descend {b} {passed} o h e u =
       record {
-        tables = d.tables;
-        known = record { long = d.known.long; right = λ r s l j. d.known.right r s (omega arith) j };
-        powers_are = d.powers_are;
-        live = d.tables.lead state b d.live h;
-        few = omega (arith, d.few);
-        small = begun-small left begun b o d.few d.small h;
+        live = t.lead state b q.live h;
+        few = omega (arith, q.few);
+        small = begun-small left begun b o left-few q.small h;
         behind = (letter-under moves ban (left - 1) state begun b passed (omega arith)).1;
-        rest = d.rest;
       }

@@ -27,7 +27,7 @@ use Rattle.laws.specs.Bans.{postmer-ban}
 use Rattle.powers.specs.Powers.{PowersAre}
 use Rattle.states.specs.Grids.{grid-at}
 use Rattle.states.specs.Tables.{next_at, next-entry, ban-entry}
-use Rattle.shelves.specs.Descents.{allowed, leads, met, ways_from, completing, Live, NextsSmall, MovesOf, Tables, WaysTo, under, Listed, Descending, ShelfOf}
+use Rattle.shelves.specs.Descents.{allowed, leads, met, ways_from, completing, Live, NextsSmall, MovesOf, Tables, WaysTo, under, Listed, Complete, Reached, ShelfOf}
 
 -- ---- the tables
 
@@ -186,18 +186,18 @@ module _ {ρ : Ranking} {w : Word} {m word : ℕ} {nexts bans moves : List ℕ} 
     pub size-read : get_or ways (64 * k) 0 ≡ size (ranked ρ) k w
     size-read = ap (λ (p : ℕ). get_or ways p 0) (sym (add-zero (64 * k))) ∙ t.right k 0 (omega arith) (inl s.letters.some) ∙ ways-size s v k few
 
+    -- the tables are those for going down
+    pub complete : {powers : List ℕ} → PowersAre powers → Complete k m word moves bans ways powers
+    complete p = record { few = few; known = t; powers_are = p; rest = rest-only s v }
+
     -- a page is listed under the empty beginning
-    pub descending : {powers : List ℕ} {start : ℕ} → PowersAre powers → start < size (ranked ρ) k w → Descending m word k 0 0 start moves bans ways powers
-    descending p h =
+    pub reached : {start : ℕ} → start < size (ranked ρ) k w → Reached k m k 0 0 start moves bans
+    reached h =
         record {
-          tables = tables s v;
-          known = t;
-          powers_are = p;
           live = inl s.letters.some;
-          few = few;
+          few = omega arith;
           small = one-le-pow (31 - k) 4 four-pos;
           behind = rw (ways-size s v k few) h;
-          rest = rest-only s v;
         }
 
   module _ {start written : ℕ} {old room : List ℕ} (l : Listed (under moves bans k 0 0) start old room written) where

@@ -1,21 +1,22 @@
 -- The table of moves, and the table of ways row by row.
 -- Assumes nothing.
-use Prim.Native.Nat.{ℕ, suc, ◌+◌, ◌-◌, ◌*◌, ◌/◌, ◌%◌, ◌^◌, ◌≤◌, ◌<◌}
+use Prim.Native.Nat.{ℕ, suc, ◌+◌, ◌-◌, ◌*◌, ◌^◌, ◌≤◌, ◌<◌}
 use mathlib.Core.Bool.{Bool, true, false, cond}
 use mathlib.Core.List.{List}
 use mathlib.Core.Logic.{inl, inr, ⊎_elim}
-use mathlib.Core.Path.{◌≡◌, refl, sym, ap, ◌∙◌}
+use mathlib.Core.Path.{◌≡◌, refl, ap, ◌∙◌}
 use native.Mathlib.Nat.{zero-add, pow-le-pow_right}
 use native.Mathlib.Numerals.{add-one}
 use native.Mathlib.Omega.{arith}
-use borrow.Author.Tests.{lt-ltb, le-ltb, eq-eqb, ne_eqb, eqb-true, eqb-false, leb-true, leb-false}
+use borrow.Author.Tests.{eqb-true, eqb-false, leb-true, leb-false}
 use lib.Dec.{eqb, leb}
-use lib.ListN.{length, get_or, set, length-set}
-use lib.Seq.{get_or-set_other}
+use lib.ListN.{length, get_or, set, take, drop, length-set, length-append, length-take, length-drop, get_or-append}
+use lib.Seq.{get_or-set_other, get_or-append_right}
+use Rattle.std.proofs.Common.{◌++◌, take_at}
 use Rattle.laws.specs.Numbers.{four-pos}
 use Rattle.laws.specs.Rooms.{Written, set_holds, written-up}
 use Rattle.laws.specs.Walks.{ways-le}
-use Rattle.shelves.specs.Descents.{allowed, leads, met, ways_from, ways_below, Live, MovesOf, Tables, WaysTo, Ready, RowReady}
+use Rattle.shelves.specs.Descents.{allowed, leads, met, ways_from, ways_below, Live, MovesOf, Tables, WaysTo, Ended, Ready, RowReady}
 
 -- ---- the table of moves
 
@@ -32,14 +33,6 @@ moves-none e = record { long = e; unmet = λ c h. absurd (omega arith); after = 
 -- in the end all are
 pub moves-all : {m to : ℕ} {next moves : List ℕ} → MovesTo m to next moves → 128 ≤ to → MovesOf m next moves
 moves-all s h = record { long = s.long; unmet = λ c k. s.unmet c (omega arith); after = λ c k. s.after c (omega arith) }
-
--- where the next state is m, the word is met
-pub move-met : {m to v : ℕ} → to ≡ m → v ≡ to + 32 → v ≡ cond (eqb to m) (to + 32) to
-move-met {m} {to} h e = e ∙ ap (λ (t : Bool). cond t (to + 32) to) (sym (eq-eqb to m h))
-
--- elsewhere it is not
-pub move-unmet : {m to v : ℕ} → (to ≡ m → ⊥) → v ≡ to → v ≡ cond (eqb to m) (to + 32) to
-move-unmet {m} {to} h e = e ∙ ap (λ (t : Bool). cond t (to + 32) to) (sym (ne_eqb to m h))
 
 module _ {m c u v : ℕ} {next moves : List ℕ} (s : MovesTo m c next moves) (h : c < 128) (e : u ≡ cond (eqb (get_or next c 0) m) (get_or next c 0 + 32) (get_or next c 0)) (f : v ≡ get_or next c 0 + 32) where
   -- one place more, with both its entries
@@ -61,51 +54,18 @@ module _ {m c u v : ℕ} {next moves : List ℕ} (s : MovesTo m c next moves) (h
 pub live-lt : {m s : ℕ} → m ≤ 31 → Live m s → s < 64
 live-lt h l = ⊎_elim (λ k. omega arith) (λ k. omega arith) l
 
--- the highest bit of a state says whether the word was met
-pub met-bit : (s : ℕ) → s < 64 → s / 32 ≡ cond (met s) 1 0
-met-bit s h = go (leb 32 s) refl
-  where
-    go : (t : Bool) → leb 32 s ≡ t → s / 32 ≡ cond t 1 0
-    go true q = omega (arith, leb-true 32 s q)
-    go false q = omega (arith, leb-false 32 s q)
-
 -- ---- the ways from a state
 
-module _ {left state : ℕ} {moves ban ways : List ℕ} (q : Ready left state moves ban ways) where
-  -- its entries stand in the table of moves
-  pub place-lt : (b : ℕ) → b < 4 → 4 * state + b < 256
-  place-lt b h = let low : state < 64 = live-lt q.tables.few q.live in omega arith
-
-  -- a letter leads to a state
-  next-live : (b : ℕ) → b < 4 → Live q.m (leads moves state b)
-  next-live b h = q.tables.lead state b q.live h
-
-  -- its ways stand in the table of ways
-  pub way-lt : (b : ℕ) → b < 4 → 64 * (left - 1) + leads moves state b < 2048
-  way-lt b h = let low : leads moves state b < 64 = live-lt q.tables.few (next-live b h) in omega (arith, q.few)
-
-  -- they are the ways under the letter, where it is allowed
-  pub under-allowed : {b : ℕ} → b < 4 → left < get_or ban ((4 * state + b) % 128) 0 → get_or ways (64 * (left - 1) + leads moves state b) 0 ≡ ways_below moves ban state (left - 1) b
-  under-allowed {b} h k =
-      q.known.right (left - 1) (leads moves state b) (omega (arith, q.some)) (next-live b h)
-      ∙ ap (λ (t : Bool). cond t (ways_from moves ban (leads moves state b) (left - 1)) 0)
-      (sym (lt-ltb (suc (left - 1)) (get_or ban ((4 * state + b) % 128) 0) (omega (arith, q.some))))
-
-  -- under a banned letter there are none
-  pub under-banned : (b : ℕ) → get_or ban ((4 * state + b) % 128) 0 ≤ left → 0 ≡ ways_below moves ban state (left - 1) b
-  under-banned b k =
-      ap (λ (t : Bool). cond t (ways_from moves ban (leads moves state b) (left - 1)) 0)
-      (sym (le-ltb (suc (left - 1)) (get_or ban ((4 * state + b) % 128) 0) (omega (arith, q.some))))
-
+module _ {m left state : ℕ} {moves ban ways : List ℕ} (t : Tables m moves ban) (q : Ready m left state moves ban ways) where
   -- the ways under the four letters are all, and few enough
-  pub four-ways : {a c g t : ℕ} → a ≡ ways_below moves ban state (left - 1) 0 → c ≡ ways_below moves ban state (left - 1) 1
-      → g ≡ ways_below moves ban state (left - 1) 2 → t ≡ ways_below moves ban state (left - 1) 3
-      → (a + c + g + t ≡ ways_from moves ban state left) × (a + c + g + t ≤ 4 ^ 31)
-  four-ways {a} {c} {g} {t} ea ec eg et =
+  pub four-ways : {a c g u : ℕ} → a ≡ ways_below moves ban state (left - 1) 0 → c ≡ ways_below moves ban state (left - 1) 1
+      → g ≡ ways_below moves ban state (left - 1) 2 → u ≡ ways_below moves ban state (left - 1) 3
+      → (a + c + g + u ≡ ways_from moves ban state left) × (a + c + g + u ≤ 4 ^ 31)
+  four-ways {a} {c} {g} {u} ea ec eg et =
       let whole : suc (left - 1) ≡ left = omega (arith, q.some) in
-      let sum : a + c + g + t ≡ ways_from moves ban state (suc (left - 1)) = omega (arith, ea, ec, eg, et) in
+      let sum : a + c + g + u ≡ ways_from moves ban state (suc (left - 1)) = omega (arith, ea, ec, eg, et) in
       let most : 4 ^ left ≤ 4 ^ 31 = pow-le-pow_right four-pos q.few in
-      let is : a + c + g + t ≡ ways_from moves ban state left = sum ∙ ap (ways_from moves ban state) whole in
+      let is : a + c + g + u ≡ ways_from moves ban state left = sum ∙ ap (ways_from moves ban state) whole in
       (is, omega (arith, is, most, ways-le (allowed ban) (leads moves) met state left))
 
 -- ---- the rows of the table of ways
@@ -120,14 +80,12 @@ rows-kept f k s h =
     }
 
 -- a row that is written up to a state
-module _ {lo hi left state : ℕ} {moves ban old ways : List ℕ} (q : RowReady lo hi left moves ban old) (s : Written lo state (64 * left) (λ t. ways_from moves ban t left) old ways) (h : lo ≤ state) (k : state < hi) where
+module _ {m lo hi left state : ℕ} {moves ban old ways : List ℕ} (t : Tables m moves ban) (q : RowReady m lo hi left moves ban old) (s : Written lo state (64 * left) (λ i. ways_from moves ban i left) old ways) (h : lo ≤ state) (k : state < hi) where
   -- the ways from the state can be read
-  pub row-ready : Ready left state moves ban ways
+  pub row-ready : Ready m left state moves ban ways
   row-ready =
       record {
-        m = q.m;
-        tables = q.tables;
-        known = rows-kept q.tables.few q.known s (omega arith);
+        known = rows-kept t.few q.known s (omega arith);
         live = q.live state h k;
         some = q.some;
         few = q.few;
@@ -139,33 +97,59 @@ module _ {lo hi left state : ℕ} {moves ban old ways : List ℕ} (q : RowReady 
 
   -- they are written too
   pub row_more : {v : ℕ} → v ≡ ways_from moves ban state left
-      → Written lo (state + 1) (64 * left) (λ t. ways_from moves ban t left) old (set ways (64 * left + state) v)
+      → Written lo (state + 1) (64 * left) (λ i. ways_from moves ban i left) old (set ways (64 * left + state) v)
   row_more e = rw add-one (written-up s (omega (arith, row_inside, s.long, q.known.long)) e refl h)
 
--- one more state is written in the row of no letter
-pub end_more : {state v : ℕ} {old ways : List ℕ} → Written 0 state 0 (λ s. cond (met s) 1 0) old ways → length old ≡ 2048 → state < 64
-    → v ≡ cond (met state) 1 0 → Written 0 (state + 1) 0 (λ s. cond (met s) 1 0) old (set ways state v)
-end_more {state} s e h q =
-    let place : 0 + state ≡ state = zero-add state in
-    rw add-one (rw place at (written-up {i = state} s (omega (arith, s.long)) q refl (omega arith)))
+-- a table whose first 32 numbers are set to 0, and the next 32 to 1, has the row of no letter
+module _ (front ones old : List ℕ) (l : length old ≡ 2048) (f : length front ≡ length (take 32 old)) where
+  -- what lies behind the first 32
+  abbrev behind : List ℕ
+  behind = drop 32 (front ++ drop 32 old)
+
+  module _ (o : length ones ≡ length (take 32 behind)) where
+    front-long : length front ≡ 32
+    front-long = omega (arith, l, f, length-take 32 old)
+
+    behind-long : length behind ≡ 2016
+    behind-long = omega (arith, l, front-long, length-drop 32 (front ++ drop 32 old), length-append front (drop 32 old), length-drop 32 old)
+
+    ones-long : length ones ≡ 32
+    ones-long = omega (arith, o, behind-long, length-take 32 behind)
+
+    pub ends : ((i : ℕ) → i < length (take 32 old) → get_or front i 0 ≡ 0) → ((i : ℕ) → i < length (take 32 behind) → get_or ones i 0 ≡ 1)
+        → Ended (take 32 (front ++ drop 32 old) ++ (ones ++ drop 32 behind))
+    ends zero_each one_each =
+        rw (take_at front (drop 32 old) 32 front-long)
+        (record {
+          long = omega (arith, front-long, ones-long, behind-long, length-append front (ones ++ drop 32 behind), length-append ones (drop 32 behind), length-drop 32 behind);
+          each = λ s h. at s h (leb 32 s) refl;
+        })
+      where
+        at : (s : ℕ) → s < 64 → (t : Bool) → leb 32 s ≡ t → get_or (front ++ (ones ++ drop 32 behind)) s 0 ≡ cond t 1 0
+        at s h true q =
+            let past : 32 ≤ s = leb-true 32 s q in
+            get_or-append_right front (ones ++ drop 32 behind) s 0 (omega (arith, front-long))
+            ∙ get_or-append ones (drop 32 behind) 0 (s - length front) (omega (arith, front-long, ones-long))
+            ∙ one_each (s - length front) (omega (arith, front-long, ones-long, o))
+        at s h false q =
+            let low : s < 32 = leb-false 32 s q in
+            get_or-append front (ones ++ drop 32 behind) 0 s (omega (arith, front-long)) ∙ zero_each s (omega (arith, front-long, f))
 
 -- the row of no letter
-pub row_zero : {m : ℕ} {moves ban old ways : List ℕ} → m ≤ 31 → length old ≡ 2048 → Written 0 64 0 (λ s. cond (met s) 1 0) old ways → WaysTo m 1 moves ban ways
-row_zero {m} {moves} {ban} {old} {ways} f e s = record { long = s.long ∙ e; right = at }
+pub row_zero : {m : ℕ} {moves ban ways : List ℕ} → m ≤ 31 → Ended ways → WaysTo m 1 moves ban ways
+row_zero {m} {moves} {ban} {ways} f e = record { long = e.long; right = at }
   where
     at : (r t : ℕ) → r < 1 → Live m t → get_or ways (64 * r + t) 0 ≡ ways_from moves ban t r
     at r t u l =
         let none : r ≡ 0 = omega arith in
-        rw none (s.inside t (omega arith) (live-lt f l))
+        rw (none, zero-add) (e.each t (live-lt f l))
 
 -- the rows before a row are right
 module _ {m left : ℕ} {moves ban old : List ℕ} (t : Tables m moves ban) (k : WaysTo m left moves ban old) (some : 0 < left) (few : left ≤ 31) where
   -- it can be written where the word was not met
-  pub unmet-ready : RowReady 0 m left moves ban old
+  pub unmet-ready : RowReady m 0 m left moves ban old
   unmet-ready =
       record {
-        m = m;
-        tables = t;
         known = k;
         live = λ s l u. inl u;
         ordered = omega arith;
@@ -176,11 +160,9 @@ module _ {m left : ℕ} {moves ban old : List ℕ} (t : Tables m moves ban) (k :
 
   module _ {between : List ℕ} (s : Written 0 m (64 * left) (λ i. ways_from moves ban i left) old between) where
     -- and then where it was
-    pub met-ready : RowReady 32 (33 + m) left moves ban between
+    pub met-ready : RowReady m 32 (33 + m) left moves ban between
     met-ready =
         record {
-          m = m;
-          tables = t;
           known = rows-kept t.few k s (omega arith);
           live = λ i l u. inr (l, omega arith);
           ordered = omega arith;

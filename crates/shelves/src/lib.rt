@@ -7,13 +7,16 @@
 // every word completes a beginning, and where nothing but the rest of the word itself does, what follows is written at once.
 #![tactic(auto)]
 
-ghost use Rattle.std.specs.Prelude.{◌≡◌, cond, List, ℕ, suc, ◌+◌, ◌-◌, ◌*◌, ◌^◌, ◌≤◌, ◌<◌, eqb, length};
+ghost use Rattle.std.specs.Prelude.{◌≡◌, cond, suc, ◌+◌, ◌-◌, ◌*◌, ◌^◌, ◌≤◌, ◌<◌, eqb, length, MatchOption};
 ghost use Rattle.definitions.specs.Lists.{tabulate};
 ghost use Rattle.definitions.specs.Outcomes.{page_outcome};
 ghost use Rattle.laws.specs.Rooms.{Written};
 ghost use Rattle.states.specs.Tables.{Known, All};
-ghost use Rattle.shelves.specs.Descents.{NextsSmall, MovesOf, leads, met, ways_from, ways_below, Tables, WaysTo, Ready, RowReady, under, Listed, Descending, Descends, AtOnce, Longer, ShelfOf, PageIs};
+ghost use Rattle.shelves.specs.Descents.{NextsSmall, MovesOf, leads, Tables, Tables-prop, Listed, Ended, Complete, AtOnce, ShelfOf, PageIs};
 ghost use Rattle.shelves.specs.Answers.{paged};
+
+use refusals::Refusal;
+use states::States;
 
 // What is added to a state where the word was met.
 const MET: u8 = 32;
@@ -33,102 +36,11 @@ fn moves_of(m: u64, next: &[u8; 128]) -> [u8; 256]
     ensures { MovesOf m next.now result }
 {
     let mut moves: [u8; 256] = [0; 256];
-    let mut c: usize = 0;
-    while c < 128 {
-        let to = next[c];
-        let after = to + MET;
-        moves[c] = arrive(m, to);
-        moves[128 + c] = after;
-        c += 1;
+    for (c, to) in next.iter().enumerate() {
+        moves[c] = arrive(m, *to);
+        moves[128 + c] = *to + MET;
     }
     moves
-}
-
-// The ways under a letter, where so many letters are left, this one among them; none where it is banned.
-fn ways_under(
-    left: u64,
-    state: u64,
-    letter: u64,
-    moves: &[u8; 256],
-    ban: &[u8; 128],
-    ways: &[u64; 2048],
-) -> u64
-    requires ready { Ready left state moves.now ban.now ways.now }
-    requires letter_bound { letter < 4 }
-    ensures { result ≡ ways_below moves.now ban.now state (left - 1) letter }
-{
-    let c = (4 * state + letter) as usize;
-    let few = left as u8;
-    if few < ban[c % 128] {
-        return ways[(64 * (left - 1) + moves[c] as u64) as usize];
-    }
-    0
-}
-
-// The ways from a state, by any letter.
-fn ways_on(left: u64, state: u64, moves: &[u8; 256], ban: &[u8; 128], ways: &[u64; 2048]) -> u64
-    requires { Ready left state moves.now ban.now ways.now }
-    ensures { result ≡ ways_from moves.now ban.now state left }
-{
-    let a_ways = ways_under(left, state, 0, moves, ban, ways);
-    let c_ways = ways_under(left, state, 1, moves, ban, ways);
-    let g_ways = ways_under(left, state, 2, moves, ban, ways);
-    let t_ways = ways_under(left, state, 3, moves, ban, ways);
-    a_ways + c_ways + g_ways + t_ways
-}
-
-// Writes the ways from the states from `lo` to below `hi` where so many letters are left.
-fn ways_row(lo: u64, hi: u64, left: u64, moves: &[u8; 256], ban: &[u8; 128], ways: &mut [u64; 2048])
-    requires { RowReady lo hi left moves.now ban.now ways.old }
-    ensures { Written lo hi (64 * left) (λ s. ways_from moves.now ban.now s left) ways.old ways.new }
-{
-    let mut state = lo;
-    while state < hi {
-        let sum = ways_on(left, state, moves, ban, ways);
-        ways[(64 * left + state) as usize] = sum;
-        state += 1;
-    }
-}
-
-// Writes the ways where no letter is left: one from each state in which the word was met.
-fn ways_end(ways: &mut [u64; 2048])
-    requires { length ways.old ≡ 2048 }
-    ensures { Written 0 64 0 (λ s. cond (met s) 1 0) ways.old ways.new }
-{
-    let mut state: u64 = 0;
-    while state < 64 {
-        ways[state as usize] = state / 32;
-        state += 1;
-    }
-}
-
-// Writes the table of ways, for up to k letters left.
-fn ways_table(k: u64, m: u64, moves: &[u8; 256], ban: &[u8; 128], ways: &mut [u64; 2048])
-    requires tables { Tables m moves.now ban.now }
-    requires in_range { (k ≤ 31) × (length ways.old ≡ 2048) }
-    ensures { WaysTo m (suc k) moves.now ban.now ways.new }
-{
-    ways_end(ways);
-    let mut left: u64 = 1;
-    while left <= k {
-        ways_row(0, m, left, moves, ban, ways);
-        ways_row(32, 33 + m, left, moves, ban, ways);
-        left += 1;
-    }
-}
-
-// Writes a number and those that follow it, so many or as many as the room takes.
-fn run(first: u64, count: u64, room: &mut [u64]) -> usize
-    requires { first + count ≤ 4 ^ 31 }
-    ensures { Listed (tabulate (λ i. first + i) count) 0 room.old room.new result }
-{
-    let n = powers::lesser(count, room.len() as u64);
-    let mut i: u64 = 0;
-    while i < n {
-        room[i as usize] = first + i;
-        i += 1;
-    }
-    n as usize
 }
 
 // A beginning: how many letters are left, its state, the number of its letters.
@@ -139,6 +51,89 @@ struct Beginning {
     begun: u64,
 }
 
+// What a beginning leads to: the number of the word's letters, where each letter leads from each state, and where it is banned.
+#[derive(Drop)]
+struct Acceptor<'a> {
+    m: u64,
+    moves: [u8; 256],
+    ban: &'a [u8; 128],
+    ghost tables: { Tables m moves ban.now } by { Tables-prop m moves ban.now },
+}
+
+impl Acceptor<'_> {
+    ghost use Rattle.shelves.specs.Going.{Ready, RowReady, WaysTo, ways_from, ways_below, Longer};
+
+    // The ways under a letter, where so many letters are left, this one among them; none where it is banned.
+    fn ways_under(&self, left: u64, state: u64, letter: u64, ways: &[u64; 2048]) -> u64
+        requires ready { Ready self.now left state ways.now }
+        requires letter_bound { letter < 4 }
+        ensures { result ≡ ways_below self.now state (left - 1) letter }
+    {
+        let c = (4 * state + letter) as usize;
+        let few = left as u8;
+        if few < self.ban[c % 128] {
+            return ways[(64 * (left - 1) + self.moves[c] as u64) as usize];
+        }
+        0
+    }
+
+    // The ways from a state, by any letter.
+    fn ways_on(&self, left: u64, state: u64, ways: &[u64; 2048]) -> u64
+        requires { Ready self.now left state ways.now }
+        ensures { result ≡ ways_from self.now state left }
+    {
+        let a_ways = self.ways_under(left, state, 0, ways);
+        let c_ways = self.ways_under(left, state, 1, ways);
+        let g_ways = self.ways_under(left, state, 2, ways);
+        let t_ways = self.ways_under(left, state, 3, ways);
+        a_ways + c_ways + g_ways + t_ways
+    }
+
+    // Writes the ways from the states from `lo` to below `hi` where so many letters are left.
+    fn ways_row(&self, lo: u64, hi: u64, left: u64, ways: &mut [u64; 2048])
+        requires { RowReady self.now lo hi left ways.old }
+        ensures { Written lo hi (64 * left) (λ s. ways_from self.now s left) ways.old ways.new }
+    {
+        for state in lo..hi {
+            let sum = self.ways_on(left, state, ways);
+            ways[(64 * left + state) as usize] = sum;
+        }
+    }
+
+    // Writes the table of ways, for up to k letters left.
+    fn ways_table(&self, k: u64, ways: &mut [u64; 2048])
+        requires { (k ≤ 31) × (length ways.old ≡ 2048) }
+        ensures { WaysTo self.now (suc k) ways.new }
+    {
+        ways_end(ways);
+        for left in 1..k + 1 {
+            self.ways_row(0, self.m, left, ways);
+            self.ways_row(32, 33 + self.m, left, ways);
+        }
+    }
+
+    // The beginning that is longer by a letter.
+    fn longer(&self, at: Beginning, letter: u64) -> Beginning
+        requires { Longer self.now at letter }
+        ensures { result ≡ record { left = at.left - 1; state = leads self.now.moves at.state letter; begun = 4 * at.begun + letter } }
+    {
+        Beginning {
+            left: at.left - 1,
+            state: self.moves[(4 * at.state + letter) as usize] as u64,
+            begun: 4 * at.begun + letter,
+        }
+    }
+}
+
+// Writes the ways where no letter is left: one from each state in which the word was met.
+fn ways_end(ways: &mut [u64; 2048])
+    requires { length ways.old ≡ 2048 }
+    ensures { Ended ways.new }
+{
+    ways[..32].fill(0);
+    ways[32..64].fill(1);
+}
+
 // Numbers that follow one another: the first, how many.
 #[derive(Clone, Copy)]
 struct Stretch {
@@ -146,161 +141,143 @@ struct Stretch {
     count: u64,
 }
 
-// The k-mers under a beginning from place `skip` on, where they are written at once: where every word completes it, and where just the rest of the
-// word does. Elsewhere none.
-fn at_once(
-    m: u64,
-    word: u64,
-    at: Beginning,
-    skip: u64,
-    ways: &[u64; 2048],
-    powers: &[u64; 32],
-) -> Stretch
-    requires { Descends m word at.left at.state at.begun skip ways.now powers.now }
-    ensures { (moves ban : List ℕ) → Descending m word at.left at.state at.begun skip moves ban ways.now powers.now → AtOnce moves ban at.left at.state at.begun skip result.first result.count }
+// Writes numbers that follow one another, or as many of them as the room takes.
+fn run(numbers: Stretch, room: &mut [u64]) -> usize
+    requires { numbers.first + numbers.count ≤ 4 ^ 31 }
+    ensures { Listed (tabulate (λ i. numbers.first + i) numbers.count) 0 room.old room.new result }
 {
-    let left = at.left;
-    let state = at.state;
-    let power = powers[left as usize];
-    let count = ways[(64 * left + state) as usize];
-    let first = at.begun * power + skip;
-    if count == power {
-        let ahead = count - skip;
-        return Stretch {
-            first,
-            count: ahead,
-        };
+    let first = numbers.first;
+    let n = numbers.count.min(room.len() as u64);
+    for i in 0..n {
+        room[i as usize] = first + i;
     }
-    if state + left == m {
-        let rest = word % power;
-        let only = first + rest;
-        return Stretch {
-            first: only,
-            count: 1,
-        };
-    }
-    Stretch { first: 0, count: 0 }
+    n as usize
 }
 
-// The beginning that is longer by a letter.
-fn longer(at: Beginning, letter: u64, moves: &[u8; 256]) -> Beginning
-    requires { Longer at.left at.state at.begun letter moves.now }
-    ensures { result ≡ record { left = at.left - 1; state = leads moves.now at.state letter; begun = 4 * at.begun + letter } }
-{
-    let fewer = at.left - 1;
-    let to = moves[(4 * at.state + letter) as usize] as u64;
-    let begun = 4 * at.begun + letter;
-    Beginning {
-        left: fewer,
-        state: to,
-        begun,
-    }
+// What a page goes down: the letters of a k-mer, the word, its acceptor, the ways of up to k letters, the powers of 4.
+#[derive(Drop)]
+struct Descent<'a> {
+    k: u64,
+    word: u64,
+    acceptor: &'a Acceptor<'a>,
+    ways: &'a [u64; 2048],
+    powers: &'a [u64; 32],
+    ghost complete: { Complete k acceptor.now.m word acceptor.now.moves acceptor.now.ban.now ways.now powers.now },
 }
 
-// Writes the k-mers under a beginning, after so many that are passed over, as many as the room takes.
-fn fill(
-    m: u64,
-    word: u64,
-    at: Beginning,
-    skip: u64,
-    moves: &[u8; 256],
-    ban: &[u8; 128],
-    ways: &[u64; 2048],
-    powers: &[u64; 32],
-    room: &mut [u64],
-) -> usize
-    requires { Descending m word at.left at.state at.begun skip moves.now ban.now ways.now powers.now }
-    ensures { Listed (under moves.now ban.now at.left at.state at.begun) skip room.old room.new result }
-{
-    if room.len() == 0 {
-        return 0;
-    }
-    let all = at_once(m, word, at, skip, ways, powers);
-    if 0 < all.count {
-        return run(all.first, all.count, room);
-    }
-    let mut passed = skip;
-    let mut written: usize = 0;
-    let mut letter: u64 = 0;
-    while letter < 4 {
-        let under = ways_under(at.left, at.state, letter, moves, ban, ways);
-        if passed < under {
-            let next = longer(at, letter, moves);
-            let behind = &mut room[written..];
-            written += fill(m, word, next, passed, moves, ban, ways, powers, behind);
-            passed = 0;
-        } else {
-            passed -= under;
+impl Descent<'_> {
+    ghost use Rattle.shelves.specs.Going.{Reached, below};
+
+    // The k-mers under a beginning from place `skip` on, where they are written at once: where every word completes it, and where just the rest of the
+    // word does.
+    fn at_once(&self, at: Beginning, skip: u64) -> Option<Stretch>
+        requires { Reached self.now at skip }
+        ensures { MatchOption result (0 < at.left) (λ s. AtOnce (below self.now at) skip s.first s.count) }
+    {
+        let power = self.powers[at.left as usize];
+        let count = self.ways[(64 * at.left + at.state) as usize];
+        let first = at.begun * power + skip;
+        if count == power {
+            return Some(Stretch {
+                first,
+                count: count - skip,
+            });
         }
-        letter += 1;
+        if at.state + at.left == self.acceptor.m {
+            return Some(Stretch {
+                first: first + self.word % power,
+                count: 1,
+            });
+        }
+        None
     }
-    written
+
+    // Writes the k-mers under a beginning, after so many that are passed over, as many as the room takes.
+    fn fill(&self, at: Beginning, skip: u64, room: &mut [u64]) -> usize
+        requires { Reached self.now at skip }
+        ensures { Listed (below self.now at) skip room.old room.new result }
+    {
+        if room.is_empty() {
+            return 0;
+        }
+        if let Some(numbers) = self.at_once(at, skip) {
+            return run(numbers, room);
+        }
+        let mut passed = skip;
+        let mut written: usize = 0;
+        for letter in 0..4 {
+            let under = self
+                .acceptor
+                .ways_under(at.left, at.state, letter, self.ways);
+            if passed < under {
+                let next = self.acceptor.longer(at, letter);
+                let behind = &mut room[written..];
+                written += self.fill(next, passed, behind);
+                passed = 0;
+            } else {
+                passed -= under;
+            }
+        }
+        written
+    }
 }
 
-// What a page answers: the refusal, how many k-mers it wrote.
-#[derive(Clone, Copy)]
-pub struct Paged {
-    pub refusal: u64,
-    pub written: u64,
-}
-
-// The page of a word of m letters, by its next states and bans.
+// The page of a word of m letters, by its states.
 fn page_by(
     k: u64,
     m: u64,
     word: u64,
     start: u64,
-    next: &[u8; 128],
-    ban: &[u8; 128],
+    states: &States,
     room: &mut [u64],
-) -> Paged
-    requires known { Known (λ ρ w. ShelfOf ρ w m word next.now ban.now) }
+) -> Result<u64, Refusal>
+    requires known { Known (λ ρ w. ShelfOf ρ w m word states.now.next states.now.ban) }
     requires in_range { (m ≤ k) × (k ≤ 31) }
-    ensures { All (λ ρ w. ShelfOf ρ w m word next.now ban.now) (λ ρ w. PageIs ρ w k start room.old room.new result) }
+    ensures { All (λ ρ w. ShelfOf ρ w m word states.now.next states.now.ban) (λ ρ w. PageIs ρ w k start room.old room.new result) }
 {
-    let moves = moves_of(m, next);
+    let acceptor = Acceptor {
+        m,
+        moves: moves_of(m, &states.next),
+        ban: &states.ban,
+    };
     let mut ways: [u64; 2048] = [0; 2048];
-    ways_table(k, m, &moves, ban, &mut ways);
+    acceptor.ways_table(k, &mut ways);
     let size = ways[(64 * k) as usize];
     if size < start {
-        return Paged {
-            refusal: 8,
-            written: 0,
-        };
+        return Err(Refusal::Start);
     }
     if size == start {
-        return Paged {
-            refusal: 0,
-            written: 0,
-        };
+        return Ok(0);
     }
     let powers = powers::powers();
+    let descent = Descent {
+        k,
+        word,
+        acceptor: &acceptor,
+        ways: &ways,
+        powers: &powers,
+    };
     let empty = Beginning {
         left: k,
         state: 0,
         begun: 0,
     };
-    let written = fill(m, word, empty, start, &moves, ban, &ways, &powers, room);
-    Paged {
-        refusal: 0,
-        written: written as u64,
-    }
+    let written = descent.fill(empty, start, room);
+    Ok(written as u64)
 }
 
-// Writes the k-mers of a shelf from place `start` on, as many as there are and the room takes, in increasing order of the k-mer itself. Refusals 1 to 4,
-// then 8.
-pub fn page(k: u64, m: u64, key: u64, word: u64, start: u64, room: &mut [u64]) -> Paged
+// Writes the k-mers of a shelf from place `start` on, as many as there are and the room takes, in increasing order of the k-mer itself, and tells how
+// many. Refusals 1 to 4, then 8.
+pub fn page(
+    k: u64,
+    m: u64,
+    key: u64,
+    word: u64,
+    start: u64,
+    room: &mut [u64],
+) -> Result<u64, Refusal>
     ensures { paged result room.new ≡ page_outcome k m key word start room.old }
 {
-    let prepared = states::prepare(k, m, key, word);
-    if prepared.refusal != 0 {
-        return Paged {
-            refusal: prepared.refusal,
-            written: 0,
-        };
-    }
-    let s = prepared.states;
-    let next = s.next;
-    let ban = s.ban;
-    page_by(k, m, word, start, &next, &ban, room)
+    let states = states::prepare(k, m, key, word)?;
+    page_by(k, m, word, start, &states, room)
 }
