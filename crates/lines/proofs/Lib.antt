@@ -1,8 +1,8 @@
 -- Laws that several proofs cite.
 --
--- Numerals      the number that a text spells
--- Parts         when an input, and when three texts, are a line
+-- Cuts          the parts of an input, and when these are a line
+-- Parts         what the parts of a line spell
 -- Determined    the contracts take every input and determine the outcomes
-pub mod Numerals
+pub mod Cuts
 pub mod Parts
 pub mod Determined

@@ -1,131 +1,88 @@
 // The line that the shelf printer reads: k, a key and a word. Assumes nothing.
 #![tactic(auto)]
 
-ghost use Rattle.std.specs.Prelude.{◌≡◌, eqb};
-ghost use Rattle.definitions.specs.Lists.{first_place};
-ghost use Rattle.definitions.specs.Cards.{before as before_first, behind as behind_first, read_outcome};
-ghost use Rattle.lines.specs.Answers.{lined, digit_of, spelled_in, malformed_line, parts_outcome};
+ghost use Rattle.std.specs.Prelude.{◌≡◌, eqb, position, MatchOption};
+ghost use Rattle.definitions.specs.Cards.{read_outcome};
+ghost use Rattle.lines.specs.Answers.{lined, IsUncut, IsCut, digit_of, spelled_in, parts_of, asked_in, asked_by, asked_for};
 
-// The place of the first such byte; the length where there is none.
-fn find(byte: u8, text: &[u8]) -> usize
-    ensures { result ≡ first_place (eqb byte) text.now }
+use refusals::Refusal;
+
+// The place of the first such byte.
+fn find(byte: u8, text: &[u8]) -> Option<usize>
+    ensures { result ≡ position (eqb byte) text.now }
 {
-    let mut i = 0;
-    while i < text.len() {
-        if byte == text[i] {
-            return i;
-        }
-        i += 1;
-    }
-    i
+    text.iter().position(|other| byte == *other)
 }
 
-// The part of a text before the first such byte; all where there is none.
-fn before(byte: u8, text: &[u8]) -> &[u8]
-    ensures { result.now ≡ before_first byte text.now }
+// The parts of a text before and behind the first such byte.
+fn cut(byte: u8, text: &[u8]) -> Option<(&[u8], &[u8])>
+    ensures { MatchOption result (IsUncut byte text.now) (λ parts. IsCut byte text.now parts.0.now parts.1.now) }
 {
-    let at = find(byte, text);
-    &text[..at]
+    let at = find(byte, text)?;
+    Some((&text[..at], &text[at + 1..]))
 }
 
-// The part of a text behind the first such byte; nothing where there is none.
-fn behind(byte: u8, text: &[u8]) -> &[u8]
-    ensures { result.now ≡ behind_first byte text.now }
-{
-    let at = find(byte, text);
-    if at < text.len() {
-        return &text[at + 1..];
-    }
-    &text[at..]
-}
-
-// The digit that a byte spells; 10 where it spells none.
-fn digit(byte: u8) -> u64
+// The digit that a byte spells.
+fn digit(byte: u8) -> Option<u64>
     ensures { result ≡ digit_of byte }
 {
-    if (b'0' <= byte) & (byte <= b'9') {
-        return byte as u64 - 48;
+    match byte {
+        b'0'..=b'9' => Some((byte - b'0') as u64),
+        _ => None,
     }
-    10
 }
 
-// The number that one or two digits with no leading zero spell; 100 where the text is no such.
-fn number(text: &[u8]) -> u64
+// The number that one or two digits with no leading zero spell.
+fn number(text: &[u8]) -> Option<u64>
     ensures { result ≡ spelled_in text.now }
 {
-    let n = text.len();
-    if n == 1 {
-        let only = digit(text[0]);
-        if only < 10 {
-            return only;
-        }
-        return 100;
+    match text {
+        [only] => digit(*only),
+        [b'0', _] => None,
+        [tens, ones] => Some(digit(*tens)? * 10 + digit(*ones)?),
+        _ => None,
     }
-    if n == 2 {
-        let tens = digit(text[0]);
-        let ones = digit(text[1]);
-        if (0 < tens) & (tens < 10) & (ones < 10) {
-            return tens * 10 + ones;
-        }
-        return 100;
-    }
-    100
 }
 
-// What reading a line answers: the refusal, and what it asks for: k, m, and the numbers of the key and the word.
-#[derive(Clone, Copy)]
+// What a line asks for: k, m, and the numbers of the key and the word.
+#[derive(Clone, Copy, Debug, PartialEq, Eq)]
 pub struct Line {
-    pub refusal: u64,
     pub k: u64,
     pub m: u64,
     pub key: u64,
     pub word: u64,
 }
 
-// A malformed line.
-fn malformed() -> Line
-    ensures { lined result ≡ malformed_line }
+// The line of three texts, if they are k, and a key and a word equally long.
+fn read_parts(k: &[u8], key: &[u8], word: &[u8]) -> Option<Line>
+    ensures { asked_in result ≡ asked_by (parts_of k.now key.now word.now) }
 {
-    Line {
-        refusal: 10,
-        k: 0,
-        m: 0,
-        key: 0,
-        word: 0,
-    }
-}
-
-// The line of three texts.
-fn read_parts(k: &[u8], key: &[u8], word: &[u8]) -> Line
-    ensures { lined result ≡ parts_outcome k.now key.now word.now }
-{
-    let number = number(k);
-    let first = words::pack(key);
-    let second = words::pack(word);
-    if (number == 100) | (first.refusal != 0) | (second.refusal != 0) | (key.len() != word.len()) {
-        return malformed();
-    }
-    Line {
-        refusal: 0,
-        k: number,
+    let line = Line {
+        k: number(k)?,
         m: key.len() as u64,
-        key: first.word,
-        word: second.word,
+        key: words::pack(key).ok()?,
+        word: words::pack(word).ok()?,
+    };
+    (key.len() == word.len()).then_some(line)
+}
+
+// The line of an input, if that is three parts with one space after k, one after the key, and a line feed at the end.
+fn read_all(input: &[u8]) -> Option<Line>
+    ensures { asked_in result ≡ asked_for input.now }
+{
+    let (k, rest) = cut(b' ', input)?;
+    let (key, last) = cut(b' ', rest)?;
+    let (word, end) = cut(b'\n', last)?;
+    if end.is_empty() {
+        read_parts(k, key, word)
+    } else {
+        None
     }
 }
 
-// What the line of an input asks for: three parts that make up all of it, with one space after k, one after the key, and a line feed at the end.
-// Refusal 10.
-pub fn read(input: &[u8]) -> Line
+// What the line of an input asks for. Refusal 10.
+pub fn read(input: &[u8]) -> Result<Line, Refusal>
     ensures { lined result ≡ read_outcome input.now }
 {
-    let k = before(b' ', input);
-    let rest = behind(b' ', input);
-    let key = before(b' ', rest);
-    let last = behind(b' ', rest);
-    let word = before(b'\n', last);
-    if k.len() + key.len() + word.len() + 3 != input.len() {
-        return malformed();
-    }
-    read_parts(k, key, word)
+    read_all(input).ok_or(Refusal::Line)
 }

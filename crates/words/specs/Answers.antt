@@ -1,14 +1,16 @@
 -- The answers of the operations on words as the outcomes that `definitions` speaks of.
 -- Assumes nothing.
-use Rattle.std.specs.Prelude.{ℕ, List}
+use Rattle.std.specs.Prelude.{ℕ, List, Result, Ok, Err}
 use Rattle.definitions.specs.Outcomes as outcomes
-use Rattle.words.specs.declared.Packed as answer-packed
-use Rattle.words.specs.declared.Unpacked as answer-unpacked
+use Rattle.refusals.specs.Numbers.{number_of, place_of}
+use Rattle.refusals.specs.declared.Refusal.{Refusal}
 
 -- what packing answered
-abbrev pub packed : answer-packed.Packed → outcomes.Packed
-packed r = record { refusal = r.refusal; place = r.place; word = r.word }
+abbrev pub packed : Result ℕ Refusal → outcomes.Packed
+packed (Ok word) = record { refusal = 0; place = 0; word = word }
+packed (Err r) = record { refusal = number_of r; place = place_of r; word = 0 }
 
 -- what unpacking answered, and the room as it left it
-abbrev pub unpacked : answer-unpacked.Unpacked → List ℕ → outcomes.Unpacked
-unpacked r room = record { refusal = r.refusal; written = r.written; room = room }
+abbrev pub unpacked : Result ℕ Refusal → List ℕ → outcomes.Unpacked
+unpacked (Ok written) room = record { refusal = 0; written = written; room = room }
+unpacked (Err r) room = record { refusal = number_of r; written = 0; room = room }
