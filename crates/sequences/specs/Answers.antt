@@ -1,10 +1,11 @@
 -- The outcome of examining a sequence, and what the code answered as such.
 -- Assumes nothing.
-use Rattle.std.specs.Prelude.{ℕ, zero, suc, List, [], ◌∷◌, ◌++◌, ◌≡◌, refl, length}
+use Rattle.std.specs.Prelude.{ℕ, zero, suc, Result, Ok, Err, List, [], ◌∷◌, ◌++◌, ◌≡◌, refl, length}
 use Rattle.definitions.specs.Vigemins.{windows}
 use Rattle.definitions.specs.Refusals.{Ground, refusal, bad_room, place_beside}
 use Rattle.definitions.specs.Outcomes.{sequence_grounds}
-use Rattle.sequences.specs.declared.Examined as answer
+use Rattle.refusals.specs.Numbers.{number_of, place_of}
+use Rattle.refusals.specs.declared.Refusal.{Refusal}
 
 -- what examining answers: the refusal, the place of a bad letter, the number of windows
 pub record Examined : Type 0 where
@@ -35,6 +36,7 @@ pub examine-cases : (examine_outcome 3 2 0 (65 ∷ 67 ∷ 71 ∷ 84 ∷ []) 2 �
 unfolding examine_outcome examine_answer
 examine-cases = (refl, refl, refl, refl)
 
--- what examining answered
-abbrev pub examined : answer.Examined → Examined
-examined r = record { refusal = r.refusal; place = r.place; windows = r.windows }
+-- what examining answered: no windows beside a refusal
+abbrev pub examined : Result ℕ Refusal → Examined
+examined (Ok n) = record { refusal = 0; place = 0; windows = n }
+examined (Err r) = record { refusal = number_of r; place = place_of r; windows = 0 }

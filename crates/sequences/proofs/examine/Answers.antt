@@ -1,31 +1,28 @@
 -- `sequences::examine` meets its contract: each return gives the number of the first ground whose test held, and what stands beside it.
 -- Assumes nothing.
-use Prim.Native.Nat.{ℕ, zero, suc, ◌≤◌}
-use mathlib.Core.Bool.{Bool, cond, not}
-use mathlib.Core.List.{List, [], ◌∷◌}
-use mathlib.Core.Path.{◌≡◌, refl, sym, ◌∙◌}
-use native.Mathlib.Omega.{arith}
+use Rattle.std.specs.Prelude.{ℕ, zero, suc, ◌-◌, ◌≤◌, Bool, true, false, cond, Some, None, not, List, [], ◌∷◌, Err, ◌≡◌, refl, eqb, ltb, length}
+use Rattle.std.proofs.Common.{sym, ◌∙◌, arith}
+use Rattle.std.proofs.lemmas.Result.{err_from_is_err_and}
 use borrow.Author.Tests.{ne_eqb, lt-ltb, le-ltb}
-use lib.Dec.{eqb, ltb}
-use lib.ListN.{length}
 use Rattle.definitions.specs.Lists.{all}
 use Rattle.definitions.specs.Words.{is_letter_byte}
 use Rattle.definitions.specs.Vigemins.{windows}
 use Rattle.definitions.specs.Refusals.{Ground, refusal, bad_key, bad_sequence, bad_letter, bad_room, first_bad_place, place_beside}
 use Rattle.definitions.specs.Outcomes.{order_grounds}
 use Rattle.laws.specs.Minima.{length-windows}
-use Rattle.laws.specs.Numbers.{first_bad_place-all}
 use Rattle.laws.specs.Refusals.{refusal-append, refusal-most}
-use Rattle.sequences.specs.Answers.{examine_grounds, examine_answer, examine_outcome}
+use Rattle.letters.specs.Readings.{bad_place}
+use Rattle.refusals.specs.Numbers.{number_of, place_of, number-some, place-other}
+use Rattle.refusals.specs.declared.Refusal.{Refusal}
+use Rattle.refusals.specs.declared.Refusal.TheVariants.{Letter}
+use Rattle.sequences.specs.Answers.{examined, examine_grounds, examine_answer, examine_outcome}
 use Rattle.sequences.proofs.examine.Goals as goal
-use Rattle.sequences.proofs.examine.Goals.{After-window_count-windows}
 
 -- beside a refusal stand the place that goes with it and no windows
-refused : (n : ℕ) → (n ≡ 0 → ⊥) → (k : ℕ) (s : List ℕ) {place : ℕ} → place ≡ place_beside n s
-    → record { refusal = n; place = place; windows = 0 } ≡ examine_answer n k s
+refused : (r : Refusal) (n : ℕ) → number_of r ≡ n → (k : ℕ) (s : List ℕ) → place_of r ≡ place_beside n s → examined (Err r) ≡ examine_answer n k s
 unfolding examine_answer
-refused zero h k s e = absurd (h refl)
-refused (suc n) h k s e = rw e
+refused r zero e k s p = absurd (omega (arith, number-some r))
+refused r (suc n) e k s p = rw (e, p)
 
 -- the grounds after those of k, m and the key
 abbrev rest : ℕ → List ℕ → ℕ → List Ground
@@ -36,65 +33,64 @@ given : (k m key : ℕ) (s : List ℕ) (takes : ℕ) {r : ℕ} → r ≡ refusal
     → refusal (examine_grounds k m key s takes) ≡ cond (eqb r 0) (refusal (rest k s takes)) r
 given k m key s takes e = refusal-append (order_grounds k m (bad_key m key)) (rest k s takes) (omega arith) (sym e)
 
--- the test of the letters by the first bad place
-bad-letter : (t : List ℕ) {place : ℕ} {b : Bool} → place ≡ first_bad_place t → ltb place (length t) ≡ b → not (all is_letter_byte t) ≡ b
-bad-letter t e l = sym (first_bad_place-all t) ∙ rw e at l
+-- where a place of a bad letter is found, the letters are bad, and it is that place
+some-bad : (t : Bool) {place q : ℕ} → Some place ≡ cond t None (Some q) → (not t ≡ true) × (place ≡ q)
+some-bad true e = cc
+some-bad false e = (refl, cc)
+
+-- and else they are good
+none-bad : (t : Bool) (q : ℕ) → None ≡ cond t None (Some q) → not t ≡ false
+none-bad true q e = refl
+none-bad false q e = cc
 
 -- where k, m, the key and the length are good, the letters and the room are left to be tested
-left : (c : goal.After-window_count-windows) {bad : Bool}
-    → (let a = c.args in
-    not (all is_letter_byte a.seq.now) ≡ bad
-    → refusal (examine_grounds a.k a.m a.key a.seq.now a.takes) ≡ cond bad 6 (cond (ltb a.takes c.window_count-windows.result) 7 0))
-left c e =
-    let a = c.args in
-    given a.k a.m a.key a.seq.now a.takes c.order_refusal-refusal.ensures
-    ∙ rw (c.if-refusal-ne0.false, le-ltb 65536 (length a.seq.now) c.if-n-gt65536.false, e, length-windows, c.window_count-windows.ensures)
+left : (k m key : ℕ) (s : List ℕ) (takes : ℕ) → 0 ≡ refusal (order_grounds k m (bad_key m key)) → length s ≤ 65536 → {bad full : Bool}
+    → not (all is_letter_byte s) ≡ bad → ltb takes (suc (length s) - k) ≡ full → refusal (examine_grounds k m key s takes) ≡ cond bad 6 (cond full 7 0)
+left k m key s takes g h e f = given k m key s takes g ∙ rw (le-ltb 65536 (length s) h, e, length-windows, f)
 
--- where the letters are good only the room is left
-left-room : (c : goal.After-window_count-windows) → length c.args.seq.now ≤ c.first_bad-bad.result
-    → (let a = c.args in
-    refusal (examine_grounds a.k a.m a.key a.seq.now a.takes) ≡ cond (ltb a.takes c.window_count-windows.result) 7 0)
-left-room c h =
-    let s = c.args.seq.now in
-    let f = c.first_bad-bad in
-    left c (bad-letter s f.ensures (le-ltb f.result (length s) h))
-
-pub returns-then-refusal-ne0 : goal.returns-then-refusal-ne0
+pub returns-in_err-order_refusal : goal.returns-in_err-order_refusal
 unfolding examine_outcome
-returns-then-refusal-ne0 c =
+returns-in_err-order_refusal c =
     let a = c.args in
-    let r = c.order_refusal-refusal.result in
-    let low : r ≤ 3 = rw c.order_refusal-refusal.ensures (refusal-most 3 (order_grounds a.k a.m (bad_key a.m a.key)) refl) in
-    rw (given a.k a.m a.key a.seq.now a.takes c.order_refusal-refusal.ensures, ne_eqb r 0 c.if-refusal-ne0.true)
-    (refused r c.if-refusal-ne0.true a.k a.seq.now (rw (ne_eqb r 6 (omega arith))))
+    let r = c.in_err-order_refusal.field-0.0 in
+    let e : number_of r ≡ refusal (order_grounds a.k a.m (bad_key a.m a.key)) = c.in_err-order_refusal.ensures in
+    let low : number_of r ≤ 3 = rw e (refusal-most 3 (order_grounds a.k a.m (bad_key a.m a.key)) refl) in
+    let some = number-some r in
+    let p = err_from_is_err_and c.from_residual.result c.from_residual.ensures.1 in
+    rw (p.1, p.2, given a.k a.m a.key a.seq.now a.takes e, ne_eqb (number_of r) 0 (λ z. omega arith))
+    (refused r (number_of r) refl a.k a.seq.now (place-other r (λ z. omega arith) ∙ rw (ne_eqb (number_of r) 6 (λ z. omega arith))))
 
 pub returns-then-n-gt65536 : goal.returns-then-n-gt65536
 unfolding examine_outcome examine_answer
 returns-then-n-gt65536 c =
     let a = c.args in
-    let e = given a.k a.m a.key a.seq.now a.takes c.order_refusal-refusal.ensures in
-    rw (e, c.if-refusal-ne0.false, lt-ltb 65536 (length a.seq.now) c.if-n-gt65536.true)
+    let e = given a.k a.m a.key a.seq.now a.takes c.in_ok-order_refusal.ensures in
+    rw (e, lt-ltb 65536 (length a.seq.now) c.if-n-gt65536.true)
+
+pub returns-in-Some : goal.returns-in-Some
+unfolding examine_outcome
+returns-in-Some c =
+    let a = c.args in
+    let s = a.seq.now in
+    let bad = some-bad (all is_letter_byte s) c.in-Some.ensures in
+    rw (left a.k a.m a.key s a.takes c.in_ok-order_refusal.ensures (omega arith) bad.0 refl) (refused (Letter c.in-Some.bad) 6 refl a.k s bad.1)
+
+-- where the letters are good only the room is left
+fine : (k m key : ℕ) (s : List ℕ) (takes : ℕ) → 0 ≡ refusal (order_grounds k m (bad_key m key)) → length s ≤ 65536 → None ≡ bad_place s
+    → {w : ℕ} → w ≡ suc (length s) - k → {full : Bool} → ltb takes w ≡ full → refusal (examine_grounds k m key s takes) ≡ cond full 7 0
+fine k m key s takes g h b e f = left k m key s takes g h (none-bad (all is_letter_byte s) (first_bad_place s) b) (rw e at f)
 
 pub returns-then-takes-windows : goal.returns-then-takes-windows
 unfolding examine_outcome examine_answer
 returns-then-takes-windows c =
     let a = c.args in
-    let e = left-room (goal.at.returns-then-takes-windows c).After-window_count-windows (omega arith) in
-    rw (e, lt-ltb a.takes c.window_count-windows.result c.if-takes-windows.true)
-
-pub returns-then-bad-n : goal.returns-then-bad-n
-unfolding examine_outcome
-returns-then-bad-n c =
-    let a = c.args in
-    let s = a.seq.now in
-    let f = c.first_bad-bad in
-    let there = bad-letter s f.ensures (lt-ltb f.result (length s) c.if-bad-n.true) in
-    rw (left (goal.at.returns-then-bad-n c).After-window_count-windows there) (refused 6 (λ e. omega arith) a.k s f.ensures)
+    let w = c.window_count-windows.ensures in
+    rw (fine a.k a.m a.key a.seq.now a.takes c.in_ok-order_refusal.ensures (omega arith) c.in_default.ensures w (lt-ltb _ _ c.if-takes-windows.true))
 
 pub returns : goal.returns
 unfolding examine_outcome examine_answer
 returns c =
     let a = c.args in
-    let w = c.window_count-windows in
-    let e = left-room (goal.at.returns c).After-window_count-windows (omega arith) in
-    rw (e, le-ltb a.takes w.result c.if-takes-windows.false, length-windows a.k a.seq.now, w.ensures)
+    let w = c.window_count-windows.ensures in
+    let e = fine a.k a.m a.key a.seq.now a.takes c.in_ok-order_refusal.ensures (omega arith) c.in_default.ensures w (le-ltb _ _ c.if-takes-windows.false) in
+    rw (e, length-windows, w)

@@ -121,5 +121,5 @@ loop-p-preserved c =
 pub returns : goal.returns
 unfolding vigemin_answer
 returns c =
-    let found = passed-all c.requires c.power-mask.ensures c.loop-p.invariant (omega arith) in
-    rw (found.0, found.1)
+    let all = passed-all c.requires c.power-mask.ensures c.loop-p.invariant (omega arith) in
+    rw (all.0, all.1)

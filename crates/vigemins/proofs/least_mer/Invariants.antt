@@ -1,7 +1,6 @@
 -- `vigemins::least_mer` meets its contract. The loop's invariant: of the first p m-mers the least is held, with its value and its position.
--- The measure is how many m-mers are left.
 -- Assumes nothing.
-use Prim.Native.Nat.{ℕ, suc, ◌+◌, ◌-◌, ◌≤◌, ◌<◌}
+use Prim.Native.Nat.{ℕ, suc, ◌+◌, ◌≤◌, ◌<◌}
 use mathlib.Core.Path.{◌≡◌}
 use lib.ListN.{length, get_or, take, drop}
 use Rattle.definitions.specs.Words.{Word, val, word as word_of}
@@ -19,6 +18,3 @@ pub record Passed (m key : ℕ) (x : Word) (p word least position : ℕ) : Type 
 
 abbrev pub invariant-loop-p : goal.invariant-loop-p
 invariant-loop-p l = Passed l.m l.key (word_of l.k l.kmer) l.p l.word l.least l.position
-
-abbrev pub decreases-loop-p : goal.decreases-loop-p
-decreases-loop-p l = suc l.last - l.p

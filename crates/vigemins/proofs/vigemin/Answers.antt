@@ -1,34 +1,34 @@
 -- `vigemins::vigemin` meets its contract: refused, it gives the answer under the number of refusal; else it has the inputs that the search asks for.
 -- Assumes nothing.
-use Prim.Native.Nat.{ℕ, zero, suc}
-use mathlib.Core.Path.{◌≡◌, refl, sym, ◌∙◌}
+use Rattle.std.specs.Prelude.{ℕ, zero, suc, ◌≡◌, Err}
+use Rattle.std.proofs.Common.{arith, sym}
+use Rattle.std.proofs.lemmas.Result.{err_from_is_err_and}
 use Rattle.definitions.specs.Words.{Word}
 use Rattle.definitions.specs.Vigemins.{Form}
-use Rattle.definitions.specs.Refusals.{refusal}
-use Rattle.definitions.specs.Outcomes.{vigemin_grounds, vigemin_answer, vigemin_outcome}
+use Rattle.definitions.specs.Outcomes.{vigemin_answer, vigemin_outcome}
 use Rattle.laws.specs.Accepted.{word-accepted}
+use Rattle.refusals.specs.Numbers.{number_of, number-some}
+use Rattle.refusals.specs.declared.Refusal.{Refusal}
+use Rattle.vigemins.specs.Answers.{found}
 use Rattle.vigemins.proofs.vigemin.Goals as goal
-use Rattle.vigemins.proofs.vigemin.Goals.{Else-refusal-ne0}
 
 -- beside a refusal stand zeros
-refused : (r : ℕ) → (r ≡ 0 → ⊥) → (f : Form) (m : ℕ) (x : Word) → record { refusal = r; word = 0; position = 0 } ≡ vigemin_answer r f m x
+refused : (r : Refusal) (n : ℕ) → number_of r ≡ n → (f : Form) (m : ℕ) (x : Word) → found (Err r) ≡ vigemin_answer n f m x
 unfolding vigemin_answer
-refused zero h f m x = absurd (h refl)
-refused (suc r) h f m x = refl
+refused r zero e f m x = absurd (omega (arith, number-some r))
+refused r (suc n) e f m x = rw e
 
--- where the refusal is 0, nothing is refused
-none : (c : goal.Else-refusal-ne0) → let args = c.args in refusal (vigemin_grounds args.k args.m args.key args.kmer) ≡ 0
-none c = sym c.word_refusal-refusal.ensures ∙ c.if-refusal-ne0.false
-
-pub returns-then-refusal-ne0 : goal.returns-then-refusal-ne0
+pub returns-in_err-word_refusal : goal.returns-in_err-word_refusal
 unfolding vigemin_outcome
-returns-then-refusal-ne0 c = rw (← c.word_refusal-refusal.ensures) (refused c.word_refusal-refusal.result c.if-refusal-ne0.true _ _ _)
+returns-in_err-word_refusal c =
+    let p = err_from_is_err_and c.from_residual.result c.from_residual.ensures.1 in
+    rw (p.1, p.2) (refused _ _ c.in_err-word_refusal.ensures _ _ _)
 
 pub least_mer-requires : goal.least_mer-requires
 least_mer-requires c =
-    let args = c.args in
-    word-accepted args.k args.k args.m args.key args.kmer (none (goal.at.least_mer-requires c).Else-refusal-ne0)
+    let a = c.args in
+    word-accepted a.k a.k a.m a.key a.kmer (sym c.in_ok-word_refusal.ensures)
 
 pub returns : goal.returns
 unfolding vigemin_outcome
-returns c = rw (none (goal.at.returns c).Else-refusal-ne0) c.least_mer.ensures
+returns c = rw (← c.in_ok-word_refusal.ensures) c.least_mer.ensures
