@@ -1,12 +1,13 @@
 -- Counts of antemers by shared prefix, as the code sums them up: over the shared lengths, and over the letters that may follow.
 -- Assumes nothing.
 use Prim.Native.Nat.{ℕ, zero, suc, ◌+◌, ◌-◌, ◌*◌, ◌^◌, ◌≤◌, ◌<◌, min}
-use mathlib.Core.Bool.{Bool, true, false, cond}
+use mathlib.Core.Bool.{Bool, true, false, cond, ◌&&◌}
 use mathlib.Core.List.{List, [], ◌∷◌, map}
 use mathlib.Core.Path.{◌≡◌, refl, sym, ap, ap₂, ◌∙◌}
 use native.Mathlib.Nat.{zero-add, add-zero, add_assoc, not-suc-le-zero, le_of_suc-le-suc, pow-le-pow_right, le_trans, mul-le-mul}
 use native.Mathlib.Numerals.{add-one}
 use native.Mathlib.Omega.{arith}
+use mir.Val.{bool_byte}
 use borrow.Author.Tests.{leb-true, leb-false}
 use lib.Dec.{leb}
 use lib.ListN.{length, get_or, take}
@@ -20,10 +21,9 @@ use Rattle.laws.specs.Numbers.{four-pos, length_digits, digits-below, letters-at
 use Rattle.laws.specs.Counting.{count, count-le}
 use Rattle.laws.specs.Orders.{Ranking, key_ranking, keyed-law}
 use Rattle.laws.specs.Prefixes.{sharing, sharing_from, sharing-all, sharing-split, sharing-short, sharing-past}
-use Rattle.laws.specs.Rules.{Σ, banned, restrained, T, by_prefix}
+use Rattle.laws.specs.Rules.{is_equal, own, R, Σ, banned, restrained, T, by_prefix}
 use Rattle.laws.proofs.Antemers.{antemers-full, antemers-whole, antemers-banned, antemers-rule, antemers-none-shared}
-use Rattle.counters.specs.Settings.{SetTo, Served}
-use Rattle.counters.proofs.Tests.{ties}
+use Rattle.counters.specs.Settings.{SetTo}
 
 -- a count of words of at most ten letters is at most 4^10
 pub from-small : (w : Word) (p : Word → Bool) (i n : ℕ) → n ≤ 10 → sharing_from w p i n ≤ 4 ^ 10
@@ -36,10 +36,6 @@ pub record Summed (w : Word) (p : Word → Bool) (i n sum shared : ℕ) : Type 0
   pub part : sum + sharing_from w p shared n ≡ sharing_from w p i n
 
 module _ {w : Word} {p : Word → Bool} {i n : ℕ} where
-  -- at first nothing is summed up
-  pub summed-first : {sum shared : ℕ} → sum ≡ 0 → shared ≡ i → Summed w p i n sum shared
-  summed-first e q = record { part = ap₂ (λ (a b : ℕ). a + sharing_from w p b n) e q ∙ zero-add (sharing_from w p i n) }
-
   -- one length more
   pub summed-more : {sum shared one : ℕ} → Summed w p i n sum shared → one ≡ sharing w p shared n → Summed w p i n (sum + one) (shared + 1)
   summed-more {sum} {shared} {one} s e =
@@ -77,7 +73,7 @@ following ρ w from i n b = cond (restrained ρ w (λ j. true) i b) (from (suc (
 
 -- T lies between 2 and i + 2, so that what follows is shorter
 pub T-between : (ρ : Ranking) (w : Word) {i n : ℕ} (b : ℕ) {t : ℕ} → t ≡ T ρ w (λ j. true) i b → i < n → (t ≤ i + 2) × (t ≤ n + 1) × (n + 1 - t < n)
-T-between ρ w {i} b e h = omega (arith, first_to-le i (ties ρ w i b))
+T-between ρ w {i} b e h = omega (arith, first_to-le i (λ q. true && is_equal (R ρ w i (suc (suc q))) && own w (i - q) b))
 
 -- a sum over the letters that has come to a letter
 pub record Gathered (ρ : Ranking) (w : Word) (p : Word → Bool) (i n sum letter : ℕ) : Type 0 where
@@ -86,15 +82,6 @@ pub record Gathered (ρ : Ranking) (w : Word) (p : Word → Bool) (i n sum lette
   pub small : sum ≤ letter * 4 ^ 10
 
 module _ {ρ : Ranking} {w : Word} {p : Word → Bool} {i n : ℕ} where
-  -- at first nothing is gathered
-  pub gathered-first : {sum letter : ℕ} → sum ≡ 0 → letter ≡ 0 → Gathered ρ w p i n sum letter
-  gathered-first e q =
-      record {
-        upto = omega arith;
-        part = e ∙ ap (λ (l : ℕ). total (map (following ρ w (sharing_from w p) i n) (take l letters))) (sym q);
-        small = omega arith;
-      }
-
   module _ {sum letter : ℕ} (g : Gathered ρ w p i n sum letter) (h : letter < 4) where
     -- one letter more, by what it adds
     gathered-by : {one : ℕ} → one ≡ following ρ w (sharing_from w p) i n letter → one ≤ 4 ^ 10 → Gathered ρ w p i n (sum + one) (letter + 1)
@@ -133,6 +120,11 @@ module _ {ρ : Ranking} {w : Word} {p : Word → Bool} {i n : ℕ} where
         let small : one ≤ 4 ^ 10 = rw r (from-small w p (i + 2 - t) (n + 1 - t) (omega (arith, T-between ρ w letter q k))) in
         omega (arith, g.small)
 
+-- a test as a number
+as_number : (t : Bool) → bool_byte t ≡ cond t 1 0
+as_number true = refl
+as_number false = refl
+
 -- ---- document 01's rules for the keyed form
 
 module _ {m key word : ℕ} (s : SetTo m key word) where
@@ -165,9 +157,13 @@ module _ {m key word : ℕ} (s : SetTo m key word) where
       (λ ρ one. antemers-banned ρ one own_word (digits-below four-pos m word) i n (rw long h)) key_word (digits-below four-pos m key) (sym e))
 
   -- one or none has no letter behind the shared ones
-  pub whole-one : {i n r : ℕ} → i ≤ m → i ≡ n → r ≡ cond (is_antemer (take i own_word)) 1 0 → r ≡ sharing own_word is_antemer i n
-  whole-one {i} h e q =
-      q ∙ sym (antemers-whole (keyed key_word) own_word (digits-below four-pos m word) i (rw long h)) ∙ ap (sharing own_word is_antemer i) e
+  pub whole-one : {i n r : ℕ} {t : Bool} → i ≤ m → i ≡ n → t ≡ is_antemer (take i own_word) → r ≡ bool_byte t → r ≡ sharing own_word is_antemer i n
+  whole-one {i} {t = t} h e q k =
+      k
+      ∙ as_number t
+      ∙ ap (λ (b : Bool). cond b 1 0) q
+      ∙ sym (antemers-whole (keyed key_word) own_word (digits-below four-pos m word) i (rw long h))
+      ∙ ap (sharing own_word is_antemer i) e
 
   -- those that share no letter
   pub none-shared : {i n first rest : ℕ} → i ≡ 0 → 0 < n → first ≡ length (filter (Σ (key_ranking key_word) own_word 1) letters) → rest ≡ sharing_from own_word is_antemer 0 (n - 1)
@@ -197,7 +193,3 @@ module _ {m key word : ℕ} (s : SetTo m key word) where
       ∙ sym
       (keyed-law (λ ρ f. sharing own_word (antemer f own_word) i n ≡ by_prefix ρ own_word (λ j. true) (sharing_from own_word (antemer f own_word)) i n)
       (λ ρ one. antemers-rule ρ one own_word (digits-below four-pos m word) i n (rw long h) k) key_word (digits-below four-pos m key))
-
--- shorter antemers are served too
-pub fewer : {m key word n l : ℕ} → Served m key word n → l ≤ n → Served m key word l
-fewer s h = record { set = s.set; short = omega (arith, s.short); fits = omega (arith, s.fits) }

@@ -1,12 +1,11 @@
 -- The first letters of the word tested directly: whether they are an antemer, by the numbers of the m-mers of these letters followed by the word.
 -- Assumes nothing.
 use Prim.Native.Nat.{ℕ, ◌+◌, ◌-◌, ◌*◌, ◌/◌, ◌%◌, ◌^◌, ◌≤◌, ◌<◌}
-use mathlib.Core.Bool.{Bool, true, false, cond, not, ◌&&◌, ◌||◌, not-not}
+use mathlib.Core.Bool.{Bool, true, false, not, ◌&&◌, ◌||◌, not-not}
 use mathlib.Core.List.{List, [], ◌∷◌, ◌++◌}
 use mathlib.Core.Path.{◌≡◌, refl, sym, ap, ap₂, ◌∙◌}
-use native.Mathlib.Nat.{pow-le-pow_right, lt_of_lt_of_le, sub-zero}
+use native.Mathlib.Nat.{one-le-pow, pow-le-pow_right, lt_of_lt_of_le}
 use native.Mathlib.Omega.{arith}
-use borrow.Author.Tests.{le-leb, lt-leb}
 use lib.Bits.{bit_xor}
 use lib.Dec.{ltb, leb}
 use lib.ListN.{length, get_or, take, drop, length-append}
@@ -20,7 +19,7 @@ use Rattle.laws.specs.Numbers.{four-pos, four-pow, length_digits, digits-below, 
 use Rattle.laws.specs.Minima.{length-windows, window-at, stretch-mer}
 use Rattle.laws.specs.Orders.{above-not}
 use Rattle.powers.specs.Powers.{power_outcome, power-four}
-use Rattle.counters.specs.Settings.{Served}
+use Rattle.counters.specs.Settings.{SetTo, Served}
 use Rattle.counters.proofs.Signs.{front-number}
 
 -- a test of all entries: it fails at no place
@@ -36,6 +35,10 @@ all-places p (a ∷ l) d = go (p a) (all-places p l d)
 not-above : (x y : ℕ) → not (ltb y x) ≡ leb x y
 not-above x y = ap not (above-not x y) ∙ not-not (leb x y)
 
+-- a test of above is the contrary of a test of at most
+pub above-tested : (x y : ℕ) {t : Bool} → t ≡ ltb y x → not t ≡ leb x y
+above-tested x y e = ap not e ∙ not-above x y
+
 -- the number of the first i letters followed by the word; side is the number of words of m letters
 abbrev pub followed_by : ℕ → ℕ → ℕ → ℕ → ℕ
 followed_by m word i side = word / 2 ^ (2 * (m - i)) * side + word
@@ -48,10 +51,14 @@ mer_at m word i side p = followed_by m word i side / 2 ^ (2 * (i - p)) % side
 abbrev pub at_most_at : ℕ → ℕ → ℕ → ℕ → ℕ → ℕ → Bool
 at_most_at m key word i side p = leb (bit_xor (mer_at m word i side p) key) (bit_xor word key)
 
-module _ {m key word i : ℕ} (s : Served m key word i) (h : i ≤ m) {side : ℕ} (e : side ≡ power_outcome m) where
+module _ {m key word i : ℕ} (set : SetTo m key word) (s : Served m i) (h : i ≤ m) {side : ℕ} (e : side ≡ power_outcome m) where
   -- there are 4^m words of m letters
   pub side-is : side ≡ 4 ^ m
-  side-is = e ∙ power-four m s.set.few
+  side-is = e ∙ power-four m set.few
+
+  -- so there are some
+  pub side_some : 0 < side
+  side_some = rw side-is (one-le-pow m 4 four-pos)
 
   -- the word's letters
   abbrev own_word : Word
@@ -82,8 +89,8 @@ module _ {m key word i : ℕ} (s : Served m key word i) (h : i ≤ m) {side : �
       rw side-is
       (number_append 4 front own_word
       ∙ ap₂ (λ (a b : ℕ). a + b)
-      (ap₂ (λ (a b : ℕ). a * 4 ^ b) (front-number i m word h s.set.word_small) (length_digits 4 m word))
-      (number-digits-lt four-pos m word s.set.word_small))
+      (ap₂ (λ (a b : ℕ). a * 4 ^ b) (front-number i m word h set.word_small) (length_digits 4 m word))
+      (number-digits-lt four-pos m word set.word_small))
 
   -- its number fits
   pub both_small : followed_by m word i side < 4 ^ 31
@@ -114,7 +121,7 @@ module _ {m key word i : ℕ} (s : Served m key word i) (h : i ≤ m) {side : �
       worth : (v : Word) → length v ≡ m → Letters v → value f v ≡ bit_xor (val v) key
       worth v q hv =
           keyed-value (word_of m key) v (q ∙ sym (length_digits 4 m key)) hv (digits-below four-pos m key)
-          ∙ ap (bit_xor (val v)) (number-digits-lt four-pos m key s.set.key_small)
+          ∙ ap (bit_xor (val v)) (number-digits-lt four-pos m key set.key_small)
 
       long : length mers ≡ i
       long =
@@ -134,21 +141,4 @@ module _ {m key word i : ℕ} (s : Served m key word i) (h : i ≤ m) {side : �
           not-above (value f (get_or mers q [])) (value f own_word)
           ∙ ap₂ leb
           (ap (value f) (at_place q k) ∙ worth (take m (drop q both)) mer.0 mer.1 ∙ ap (λ (n : ℕ). bit_xor n key) (sym (mer-is q k)))
-          (worth own_word (length_digits 4 m word) (digits-below four-pos m word) ∙ ap (λ (n : ℕ). bit_xor n key) (number-digits-lt four-pos m word s.set.word_small))
-
-  -- one where no m-mer before the last is at most the word
-  pub direct-one : any_to i (at_most_at m key word i side) ≡ false → ◌≡◌ {A = ℕ} 1 (cond (antemer (keyed (word_of m key)) own_word front) 1 0)
-  direct-one q = sym (ap (λ (t : Bool). cond {A = ℕ} t 1 0) (direct ∙ ap not q))
-
-  -- none where some m-mer before the last is
-  pub direct-none : any_to i (at_most_at m key word i side) ≡ true → ◌≡◌ {A = ℕ} 0 (cond (antemer (keyed (word_of m key)) own_word front) 1 0)
-  direct-none q = sym (ap (λ (t : Bool). cond {A = ℕ} t 1 0) (direct ∙ ap not q))
-
-  module _ (p : ℕ) where
-    -- the m-mer at p, the place that a search from 0 has come to, is at most the word
-    pub found-at-most : bit_xor (mer_at m word i side p) key ≤ bit_xor word key → at_most_at m key word i side (p - 0) ≡ true
-    found-at-most k = rw sub-zero (le-leb (bit_xor (mer_at m word i side p) key) (bit_xor word key) k)
-
-    -- or above it
-    pub found-above : bit_xor word key < bit_xor (mer_at m word i side p) key → at_most_at m key word i side (p - 0) ≡ false
-    found-above k = rw sub-zero (lt-leb (bit_xor (mer_at m word i side p) key) (bit_xor word key) k)
+          (worth own_word (length_digits 4 m word) (digits-below four-pos m word) ∙ ap (λ (n : ℕ). bit_xor n key) (number-digits-lt four-pos m word set.word_small))

@@ -12,6 +12,9 @@ use lib.Dec.{ltb, eqb}
 use lib.ListN.{length, get_or, take, drop}
 use lib.Pow.{shr_lt}
 use lib.Seq.{length-take-le}
+use Rattle.std.specs.Ordering.{is_lt, is_eq, is_gt}
+use Rattle.std.specs.declared.cmp.Ordering.{Ordering}
+use Rattle.std.specs.declared.cmp.Ordering.TheVariants.{Less, Equal, Greater}
 use Rattle.definitions.specs.Lists.{filter, all}
 use Rattle.definitions.specs.Words.{Word, Letters, letters, sum, ◌⊕◌, val, word as word_of}
 use Rattle.definitions.specs.Vigemins.{value}
@@ -22,43 +25,40 @@ use Rattle.laws.proofs.RulesHold.{sign-equal as equal-sign}
 use Rattle.laws.specs.Rules.{Sign, sign, is_less, is_equal, less, equal, greater, stretch, own, R, Σ}
 use Rattle.powers.specs.Powers.{power_outcome, power-four}
 use Rattle.powers.specs.Signs.{signed}
-use Rattle.counters.specs.Settings.{SetTo, LetterSign}
+use Rattle.counters.specs.Settings.{SetTo}
 
 -- ---- signs
 
--- a sign's number is 0 where it is below
-pub signed-less : {r : ℕ} (s : Sign) → r ≡ signed s → eqb r 0 ≡ is_less s
-signed-less less e = rw e
-signed-less equal e = rw e
-signed-less greater e = rw e
+-- below as a sign and as an ordering
+pub signed-less : {r : Ordering} (s : Sign) → r ≡ signed s → is_lt r ≡ is_less s
+signed-less less e = ap is_lt e
+signed-less equal e = ap is_lt e
+signed-less greater e = ap is_lt e
 
--- and 1 where it is equal
-pub signed_equal : {r : ℕ} (s : Sign) → r ≡ signed s → eqb r 1 ≡ is_equal s
-signed_equal less e = rw e
-signed_equal equal e = rw e
-signed_equal greater e = rw e
+-- and equal
+pub signed_equal : {r : Ordering} (s : Sign) → r ≡ signed s → is_eq r ≡ is_equal s
+signed_equal less e = ap is_eq e
+signed_equal equal e = ap is_eq e
+signed_equal greater e = ap is_eq e
 
--- a sign's number by the two numbers: 2 where the first is above
-signed_above : (x y : ℕ) → eqb (signed (sign x y)) 2 ≡ ltb y x
+-- the sign of two numbers is above where the first is above the second
+signed_above : (x y : ℕ) → is_gt (signed (sign x y)) ≡ ltb y x
 signed_above x y = go (ltb x y) (eqb x y) refl refl
   where
-    go : (t u : Bool) → ltb x y ≡ t → eqb x y ≡ u → eqb (signed (cond t less (cond u equal greater))) 2 ≡ ltb y x
+    go : (t u : Bool) → ltb x y ≡ t → eqb x y ≡ u → is_gt (signed (cond t less (cond u equal greater))) ≡ ltb y x
     go true u p q = sym (le-ltb y x (omega (arith, ltb-true x y p)))
     go false true p q = sym (le-ltb y x (omega (arith, eqb-true x y q)))
     go false false p q = sym (lt-ltb y x (omega (arith, ltb-false x y p, eqb-false x y q)))
 
--- 1 where they are equal
-signed_same : (x y : ℕ) → eqb (signed (sign x y)) 1 ≡ eqb x y
+-- and equal where they are equal
+signed_same : (x y : ℕ) → is_eq (signed (sign x y)) ≡ eqb x y
 signed_same x y = signed_equal (sign x y) refl ∙ equal-sign x y
 
--- and 0 where it is neither
-signed-neither : (r : ℕ) (x y : ℕ) → r ≡ signed (sign x y) → eqb r 0 ≡ not (eqb r 2 || eqb r 1)
-signed-neither r x y e = go (ltb x y) (eqb x y) e
-  where
-    go : (t u : Bool) → r ≡ signed (cond t less (cond u equal greater)) → eqb r 0 ≡ not (eqb r 2 || eqb r 1)
-    go true u e = rw e
-    go false true e = rw e
-    go false false e = rw e
+-- an ordering is below where it is neither above nor equal
+pub below-neither : (r : Ordering) → is_lt r ≡ not (is_gt r || is_eq r)
+below-neither Less = refl
+below-neither Equal = refl
+below-neither Greater = refl
 
 -- ---- words by numbers
 
@@ -93,28 +93,18 @@ front-value key v h hv hk =
     ∙ ap val (sum-front v key)
     ∙ val-sum v (take (length v) key) (sym (length-take-le (length v) key h)) hv (letters-take (length v) key hk)
 
--- the sign of a letter's rank against that of ai
-letter-sign-of : (ρ : Ranking) → OneToOne ρ → (w : Word) → Letters w → (l letter : ℕ) → l < length w → letter < 4 → {r : ℕ}
-    → r ≡ signed (sign (ρ l letter) (ρ l (get_or w l 0))) → LetterSign ρ w (suc l) letter r
-letter-sign-of ρ one w hw l letter h k {r} e =
-    record {
-      special = above;
-      same = equals;
-      neither = signed-neither r (ρ l letter) (ρ l (get_or w l 0)) e ∙ ap₂ (λ (t u : Bool). not (t || u)) above equals;
-    }
-  where
-    above : eqb r 2 ≡ Σ ρ w (suc l) letter
-    above =
-        ap (λ (n : ℕ). eqb n 2) e
-        ∙ signed_above (ρ l letter) (ρ l (get_or w l 0))
-        ∙ sym (ap (λ (t : Bool). t || ltb (ρ l (get_or w l 0)) (ρ l letter)) (lt-leb (length w) l h))
-
-    equals : eqb r 1 ≡ own w (suc l) letter
-    equals =
-        ap (λ (n : ℕ). eqb n 1) e
-        ∙ signed_same (ρ l letter) (ρ l (get_or w l 0))
-        ∙ rank_same ρ one l letter (get_or w l 0) k (letter-lt w l hw)
-        ∙ sym (goes_on-at w l letter h)
+-- the sign of a letter's rank against that of ai: above in Σi, equal where the letter is ai
+letter-sign-of : (ρ : Ranking) → OneToOne ρ → (w : Word) → Letters w → (l letter : ℕ) → l < length w → letter < 4 → {r : Ordering}
+    → r ≡ signed (sign (ρ l letter) (ρ l (get_or w l 0))) → (is_gt r ≡ Σ ρ w (suc l) letter) × (is_eq r ≡ own w (suc l) letter)
+letter-sign-of ρ one w hw l letter h k {r} e = (
+  ap is_gt e
+      ∙ signed_above (ρ l letter) (ρ l (get_or w l 0))
+      ∙ sym (ap (λ (t : Bool). t || ltb (ρ l (get_or w l 0)) (ρ l letter)) (lt-leb (length w) l h)),
+  ap is_eq e
+      ∙ signed_same (ρ l letter) (ρ l (get_or w l 0))
+      ∙ rank_same ρ one l letter (get_or w l 0) k (letter-lt w l hw)
+      ∙ sym (goes_on-at w l letter h),
+)
 
 -- ---- how many letters Σ1 has
 
@@ -166,10 +156,10 @@ module _ {m key word : ℕ} (s : SetTo m key word) where
       part = letters-drop p (take i own_word) (letters-take i own_word (digits-below four-pos m word))
 
   -- the sign of a letter against ai
-  pub letter-signed : (i letter : ℕ) → 0 < i → i ≤ m → letter < 4 → {r : ℕ}
+  pub letter-signed : (i letter : ℕ) → 0 < i → i ≤ m → letter < 4 → {r : Ordering}
       → let shift = 2 * (m - i) in
       r ≡ signed (sign (bit_xor letter (key / 2 ^ shift % 4)) (bit_xor (word / 2 ^ shift % 4) (key / 2 ^ shift % 4)))
-      → LetterSign (key_ranking key_word) own_word i letter r
+      → (is_gt r ≡ Σ (key_ranking key_word) own_word i letter) × (is_eq r ≡ own own_word i letter)
   letter-signed zero letter pos h k e = absurd (not-suc-le-zero pos)
   letter-signed (suc l) letter pos h k e =
       letter-sign-of (key_ranking key_word) (keyed-one-to-one key_word (digits-below four-pos m key)) own_word (digits-below four-pos m word) l letter
