@@ -4,14 +4,30 @@
 use std::io;
 use std::io::{Print, Read, Stdin};
 
-// Reads to the end of the input, and answers what of it stands in the room. A well-formed line has at most 67 bytes, so what fills the room is refused
-// however it goes on, and the rest is not kept.
-fn read_all<'a>(input: &mut Stdin, room: &'a mut [u8; 128]) -> io::Result<&'a [u8]> {
-    let n = io::copy(&mut input.by_ref().take(128), &mut &mut room[..])?;
-    if n < 128 {
-        return Ok(&room[..n as usize]);
+// Reads on to the end of the input and keeps nothing. The bound only makes the loop end for the prover.
+// By hand: `io::copy` to `io::sink()` tries an interrupted read again, and what this program writes where a read fails may not change.
+fn skip_rest(input: &mut Stdin) -> io::Result<()> {
+    let mut rest = [0u8; 4096];
+    for _ in 0..u64::MAX {
+        if input.read(&mut rest)? == 0 {
+            break;
+        }
     }
-    io::copy(input, &mut io::sink())?;
+    Ok(())
+}
+
+// Reads to the end of the input, and answers what of it stands in the room. A well-formed line has at most 67 bytes, so what fills the room is refused
+// however it goes on.
+// By hand: a `Vec` that `read_to_end` fills takes a heap, which this program has not; and `io::copy` tries an interrupted read again, as above.
+fn read_all<'a>(input: &mut Stdin, room: &'a mut [u8; 128]) -> io::Result<&'a [u8]> {
+    let mut n = 0;
+    while n < room.len() {
+        match input.read(&mut room[n..])? {
+            0 => return Ok(&room[..n]),
+            more => n += more,
+        }
+    }
+    skip_rest(input)?;
     Ok(room)
 }
 
@@ -20,7 +36,7 @@ fn main(rt: HostRuntime) -> io::Result<()> {
     let mut room = [0u8; 128];
     let (input, end) = match read_all(&mut rt.stdin(), &mut room) {
         Ok(input) => (input, Ok(())),
-        Err(e) => (&[][..], Err(e)),
+        Err(e) => (b"".as_slice(), Err(e)),
     };
     let card = cards::card(input);
     let length = card.length;
