@@ -3,7 +3,7 @@
 use Prim.Native.Nat.{ℕ, suc, ◌+◌, ◌-◌, ◌*◌, ◌^◌, ◌≤◌, ◌<◌, min}
 use mathlib.Core.Bool.{Bool, true, false, cond}
 use mathlib.Core.List.{List}
-use mathlib.Core.Logic.{◌⊎◌, inl, inr, ⊎_elim}
+use mathlib.Core.Logic.{inr, ⊎_elim}
 use mathlib.Core.Path.{◌≡◌, refl, sym, ap, ◌∙◌}
 use native.Mathlib.Nat.{zero-add, pow-le-pow_right}
 use native.Mathlib.Numerals.{add-one}
@@ -17,48 +17,11 @@ use Rattle.laws.specs.Numbers.{four-pos}
 use Rattle.laws.specs.Bans.{never}
 use Rattle.laws.specs.Rooms.{Written}
 use Rattle.powers.specs.Powers.{PowersAre}
-use Rattle.worksheets.specs.Columns.{UpTo, led_to, AllowedBy, way_of, sum_of, RowReady, FreeReady, Counts, Countable, CountedBy, Filled, Turn, TurnReady, TurnDone, Turned}
+use Rattle.worksheets.specs.Columns.{UpTo, led_to, AllowedBy, way_of, sum_of, RowReady, Counts, Countable, CountedBy, Filled, Turn, TurnReady, TurnDone, Turned}
 use Rattle.laws.proofs.RulesHold.{total-letters}
 use Rattle.worksheets.proofs.Rows.{up_to-more, up_to-none}
 
 module _ {W : ℕ → ℕ → ℕ} {m rows start follow live : ℕ} {first next ban : List ℕ} (q : Counts W m rows start follow live first next ban) where
-  -- the start is a state
-  pub start-low : start < 64
-  start-low = omega (arith, q.whole, q.few)
-
-  -- few letters are left in the first row
-  pub follow-low : 1 + follow < 64
-  follow-low = omega (arith, q.whole, q.few)
-
-  -- the start is not far ahead
-  pub ahead-low : start + rows < 64
-  ahead-low = omega (arith, q.whole, q.few)
-
-  module _ (n : ℕ) (h : n < rows) where
-    -- the next row is a row
-    pub row_low : n + 1 < 31
-    row_low = omega (arith, q.some, q.few)
-
-    -- its power is in the table
-    pub power-low : n + 1 < 32
-    power-low = omega (arith, q.few)
-
-    -- its number is small
-    pub row_small : n + 1 < 64
-    row_small = omega (arith, q.few)
-
-    -- few letters are left in it
-    pub left-low : n + 1 + follow < 64
-    left-low = omega (arith, q.whole, q.few)
-
-    -- and in the row after it
-    pub more-low : n + 1 + follow + 1 < 64
-    more-low = omega (arith, q.whole, q.few)
-
-    -- the start stands in it
-    pub row-start : n + 1 + start < 64
-    row-start = omega (arith, q.whole, q.few)
-
   -- which letters are allowed changes no more once as many letters are left as w has
   bans-last : (i b left : ℕ) → i < live → b < 4 → left < never → ltb (min left m) (get_or ban (4 * i + b) 0) ≡ ltb left (get_or ban (4 * i + b) 0)
   bans-last i b left h f k =
@@ -69,7 +32,7 @@ module _ {W : ℕ → ℕ → ℕ} {m rows start follow live : ℕ} {first next 
   module _ {n : ℕ} {ways allowed : List ℕ} (s : Filled W rows start live n ways) (h : suc n ≤ rows) (a : AllowedBy (min (suc n + follow) m) next ban allowed) where
     -- the states from which no m-mer can exist any more
     abbrev free : ℕ
-    free = m - min m (suc n + follow)
+    free = m - (suc n + follow)
 
     -- the states that live and that the start can still reach
     abbrev needed : ℕ
@@ -113,13 +76,21 @@ module _ {W : ℕ → ℕ → ℕ} {m rows start follow live : ℕ} {first next 
             omega (arith, q.small (get_or next (4 * i + b) 0) n)
         go false = omega arith
 
-    -- a letter leads to the next state at most, or nowhere
-    leads-low : (i b : ℕ) → i < needed → b < 4 → (get_or allowed (4 * i + b) 0 ≤ suc i) ⊎ (get_or allowed (4 * i + b) 0 ≡ 32)
+    -- a letter leads to state 32 at most, which is nowhere
+    leads-most : (i b : ℕ) → i < needed → b < 4 → get_or allowed (4 * i + b) 0 ≤ 32
+    leads-most i b k f = rw (leads-is i b (omega arith) f) (go (ltb (suc n + follow) (get_or ban (4 * i + b) 0)))
+      where
+        go : (t : Bool) → cond t (get_or next (4 * i + b) 0) 32 ≤ 32
+        go true = omega (arith, (q.leads i b (omega arith) f).1, q.few)
+        go false = omega arith
+
+    -- and else to the next state at most
+    leads-low : (i b : ℕ) → i < needed → b < 4 → get_or allowed (4 * i + b) 0 < 32 → get_or allowed (4 * i + b) 0 ≤ suc i
     leads-low i b k f = rw (leads-is i b (omega arith) f) (go (ltb (suc n + follow) (get_or ban (4 * i + b) 0)))
       where
-        go : (t : Bool) → (cond t (get_or next (4 * i + b) 0) 32 ≤ suc i) ⊎ (cond t (get_or next (4 * i + b) 0) 32 ≡ 32)
-        go true = inl (q.leads i b (omega arith) f).0
-        go false = inr refl
+        go : (t : Bool) → cond t (get_or next (4 * i + b) 0) 32 < 32 → cond t (get_or next (4 * i + b) 0) 32 ≤ suc i
+        go true h = (q.leads i b (omega arith) f).0
+        go false h = absurd (omega arith)
 
     -- the next row can be written
     row-ready : RowReady free needed n allowed ways
@@ -129,6 +100,7 @@ module _ {W : ℕ → ℕ → ℕ} {m rows start follow live : ℕ} {first next 
           long_ways = s.long;
           ordered = omega (arith, q.whole, q.within);
           high = omega (arith, q.whole, q.few);
+          most = leads-most;
           leads = leads-low;
           small = λ i b l k f. way-small i b k f;
         }
@@ -160,25 +132,13 @@ module _ {W : ℕ → ℕ → ℕ} {m rows start follow live : ℕ} {first next 
 -- ---- one turn
 
 module _ {W : ℕ → ℕ → ℕ} {first next ban : List ℕ} {m rows start follow live n : ℕ} {allowed ways : List ℕ} (t : Turn W first next ban m rows start follow live n allowed ways) where
-  -- the rows that are done are not ahead of the start
-  pub turn-back : n ≤ start + rows
-  turn-back = omega (arith, t.more)
-
-  module _ {low needed : ℕ} (e : low ≡ min m (n + 1 + follow)) (f : needed ≡ min live (start + rows - n)) where
-    -- m less this number can be taken
-    pub turn_low : low ≤ m
-    turn_low = omega arith
-
+  module _ {free needed : ℕ} (e : free ≡ m - (n + 1 + follow)) (f : needed ≡ min live (start + rows - n)) where
     -- the row can be written
-    pub turn-ready : RowReady (m - low) needed n allowed ways
+    pub turn-ready : RowReady free needed n allowed ways
     turn-ready = rw (e, f, add-one) (row-ready t.counts t.filled t.more t.lets)
 
-    module _ {mid : List ℕ} (u : Written (m - low) needed (suc n) (λ i. sum_of i n allowed ways) ways mid) where
-      -- and those states
-      pub turn-free : FreeReady (m - low) (n + 1) mid
-      turn-free = record { long_ways = u.long ∙ t.filled.long; fits = omega (arith, t.counts.few, t.more) }
-
-      module _ {powers after : List ℕ} (p : PowersAre powers) (v : Written 0 (m - low) (n + 1) (λ i. get_or powers (n + 1) 0) mid after) where
+    module _ {mid : List ℕ} (u : Written free needed (suc n) (λ i. sum_of i n allowed ways) ways mid) where
+      module _ {powers after : List ℕ} (p : PowersAre powers) (v : Written 0 free (n + 1) (λ i. get_or powers (n + 1) 0) mid after) where
         -- then it is written
         turn-filled : Filled W rows start live (suc n) after
         turn-filled =
@@ -207,9 +167,9 @@ pub record Going (m rows start follow live : ℕ) (first next ban : List ℕ) (n
 
 module _ {m rows start follow live : ℕ} {first next ban : List ℕ} where
   -- at first the ways are those by no letter, and the first row is written
-  pub going-first : Countable m rows start follow live first next ban → {allowed : List ℕ} → AllowedBy (min (1 + follow) m) next ban allowed
+  pub going-first : {allowed : List ℕ} → AllowedBy (min (1 + follow) m) next ban allowed
       → Going m rows start follow live first next ban 0 first (set (tabulate (λ a. 0) 31) 0 (get_or first start 0)) allowed
-  going-first known a =
+  going-first a =
       record {
         most = omega arith;
         lets = a;

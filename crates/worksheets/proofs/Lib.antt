@@ -1,6 +1,6 @@
 -- Laws that several proofs cite, in the order in which one builds on another.
 --
--- Laws          what is read out of the tables; numbers that fit
+-- Laws          known states, and what is read out of their tables
 -- Rows          a row of ways, and lists that are given up to a place
 -- Columns       a column that is counted row by row
 -- Sides         antemers and postmers as ways that a column counts

@@ -3,7 +3,7 @@
 use Prim.Native.Nat.{ℕ, suc, ◌+◌, ◌*◌, ◌^◌, ◌≤◌, ◌<◌}
 use mathlib.Core.Bool.{Bool, true, false}
 use mathlib.Core.List.{List}
-use mathlib.Core.Logic.{inl, inr, ⊎_elim}
+use mathlib.Core.Logic.{◌⊎◌, inl, inr}
 use mathlib.Core.Path.{◌≡◌, refl, sym, ap, ◌∙◌}
 use native.Mathlib.Nat.{zero-add, add-zero}
 use native.Mathlib.Omega.{arith}
@@ -38,16 +38,19 @@ module _ {lo hi done : ℕ} {allowed old : List ℕ} (q : RowReady lo hi done al
     -- a way is what it was at first
     way-kept : (b : ℕ) → b < 4 → way_of (4 * i + b) done allowed ways ≡ way_of (4 * i + b) done allowed old
     way-kept b f =
-        s.outside (done + get_or allowed (4 * i + b) 0) (⊎_elim (λ l. inl (omega arith)) (λ l. inr (omega (arith, q.high))) (q.leads i b k f))
+        s.outside (done + get_or allowed (4 * i + b) 0) (go (ltb (get_or allowed (4 * i + b) 0) 32) refl)
+      where
+        go : (t : Bool) → ltb (get_or allowed (4 * i + b) 0) 32 ≡ t
+            → (done + get_or allowed (4 * i + b) 0 < suc done + suc i) ⊎ (suc done + hi ≤ done + get_or allowed (4 * i + b) 0)
+        go true e = inl (omega (arith, q.leads i b k f (ltb-true (get_or allowed (4 * i + b) 0) 32 e)))
+        go false e = inr (omega (arith, q.high, ltb-false (get_or allowed (4 * i + b) 0) 32 e))
 
     -- a way can be read
     way-ready : (b : ℕ) → b < 4 → WayReady (4 * i + b) done allowed ways
     way-ready b f =
         record {
-          long_allowed = q.long_allowed;
-          long_ways = s.long ∙ q.long_ways;
           inside = omega (arith, q.high);
-          leads = ⊎_elim (λ l. omega (arith, q.high)) (λ l. omega (arith, q.high)) (q.leads i b k f);
+          leads = omega (arith, q.high, q.most i b k f);
         }
 
     -- the ways on can be summed up

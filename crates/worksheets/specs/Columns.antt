@@ -4,47 +4,24 @@ use Rattle.std.specs.Prelude.{ℕ, suc, ◌+◌, ◌-◌, ◌*◌, ◌^◌, ◌�
 use Rattle.definitions.specs.Lists.{total}
 use Rattle.definitions.specs.Words.{Word, letters}
 use Rattle.definitions.specs.Shelves.{antemers, postmers, column}
-use Rattle.laws.specs.Orders.{Ranking, OneToOne, ranked}
+use Rattle.laws.specs.Orders.{Ranking, ranked}
 use Rattle.laws.specs.Threads.{caught}
 use Rattle.laws.specs.Acceptors.{below_hit}
 use Rattle.laws.specs.Tables.{antemer_end}
 use Rattle.laws.specs.Bans.{never, ban, lasts, low_by}
-use Rattle.states.specs.Grids.{grid}
-use Rattle.states.specs.Tables.{next_at, ban_at, LettersOf, AlphabetsOf, LinksOf}
+use Rattle.states.specs.Tables.{AlphabetsOf, LinksOf}
+use Rattle.states.specs.declared.States.{States}
 
 -- ---- words and rankings that the tables belong to
 
--- beside w's own letters: when letters are banned
-pub record BansOf (ρ : Ranking) (w : Word) (m : ℕ) (own ban : List ℕ) : Type 0 where
-  pub word : LettersOf w m own
-  pub bans : ban ≡ grid (ban_at ρ w)
+-- the states of a word of m letters
+pub record StatesOf (ρ : Ranking) (w : Word) (m : ℕ) (s : States) : Type 0 where
+  pub alphabets : AlphabetsOf ρ w m s.own s.marks
+  pub links : LinksOf ρ w s.next s.ban
 
--- and where letters lead
-pub record MovesOf (ρ : Ranking) (w : Word) (m : ℕ) (own next ban : List ℕ) : Type 0 where
-  pub one : OneToOne ρ
-  pub word : LettersOf w m own
-  pub links : LinksOf ρ w next ban
-
--- beside the special alphabets: where letters lead
-pub record NextsOf (ρ : Ranking) (w : Word) (m : ℕ) (own marks next : List ℕ) : Type 0 where
-  pub alphabets : AlphabetsOf ρ w m own marks
-  pub nexts : next ≡ grid (next_at w)
-
--- lists that are the states of a word of m letters
-pub record StatesOf (ρ : Ranking) (w : Word) (m : ℕ) (own marks next ban : List ℕ) : Type 0 where
-  pub alphabets : AlphabetsOf ρ w m own marks
-  pub links : LinksOf ρ w next ban
-
--- the entry of a table at row i, by w's own letter at place p
-abbrev pub entry_of : ℕ → ℕ → List ℕ → List ℕ → ℕ
-entry_of i p own table = get_or table (4 * i + get_or own p 0) 0
-
--- what reading it asks
-pub record EntryReady (i p : ℕ) (own table : List ℕ) : Type 0 where
-  pub inside : i < 32
-  pub place : p < 32
-  pub letter : get_or own p 0 < 4
-  pub byte : entry_of i p own table < 256
+-- an entry of a table at row i, by w's own letter at place p, is the one given, whatever would stand past the end
+abbrev pub EntryIs : {E : Type 0} → ℕ → ℕ → States → List E → E → Type 0
+EntryIs {E} i p s table r = (d : E) → r ≡ get_or table (4 * i + get_or s.own p 0) d
 
 -- ---- lists of numbers
 
@@ -103,8 +80,6 @@ sum_of i done allowed ways = total (map (λ b. way_of (4 * i + b) done allowed w
 
 -- what reading one way asks
 pub record WayReady (c done : ℕ) (allowed ways : List ℕ) : Type 0 where
-  pub long_allowed : length allowed ≡ 128
-  pub long_ways : length ways ≡ 64
   pub inside : c < 128
   pub leads : done + get_or allowed c 0 < 64
 
@@ -119,13 +94,9 @@ pub record RowReady (lo hi done : ℕ) (allowed ways : List ℕ) : Type 0 where
   pub long_ways : length ways ≡ 64
   pub ordered : lo ≤ hi
   pub high : suc done + hi ≤ 32
-  pub leads : (i b : ℕ) → i < hi → b < 4 → (get_or allowed (4 * i + b) 0 ≤ suc i) ⊎ (get_or allowed (4 * i + b) 0 ≡ 32)
+  pub most : (i b : ℕ) → i < hi → b < 4 → get_or allowed (4 * i + b) 0 ≤ 32
+  pub leads : (i b : ℕ) → i < hi → b < 4 → get_or allowed (4 * i + b) 0 < 32 → get_or allowed (4 * i + b) 0 ≤ suc i
   pub small : (i b : ℕ) → lo ≤ i → i < hi → b < 4 → way_of (4 * i + b) done allowed ways ≤ 4 ^ 30
-
--- what writing one number for several states asks
-pub record FreeReady (free r : ℕ) (ways : List ℕ) : Type 0 where
-  pub long_ways : length ways ≡ 64
-  pub fits : r + free ≤ 64
 
 -- ---- a column
 
@@ -182,7 +153,7 @@ abbrev pub Turned : (m rows start follow live n : ℕ) → List ℕ → List ℕ
 Turned m rows start follow live n allowed ways after r =
     (W : ℕ → ℕ → ℕ) (first next ban : List ℕ) → Turn W first next ban m rows start follow live n allowed ways → TurnDone W rows start live n after r
 
--- ---- a sheet
+-- ---- a worksheet
 
 -- a list is a column of the worksheet
 pub record ColumnIs (k m : ℕ) (count : ℕ → ℕ) (list : List ℕ) : Type 0 where
@@ -195,8 +166,3 @@ AntemersAre ρ w k m list = ColumnIs k m (antemers (ranked ρ) w) list
 -- or that of the postmers
 abbrev pub PostmersAre : Ranking → Word → ℕ → ℕ → List ℕ → Type 0
 PostmersAre ρ w k m list = ColumnIs k m (postmers (ranked ρ) w) list
-
--- the columns are those of the worksheet
-pub record SheetIs (ρ : Ranking) (w : Word) (k m : ℕ) (before after : List ℕ) : Type 0 where
-  pub antemers-are : AntemersAre ρ w k m before
-  pub postmers-are : PostmersAre ρ w k m after

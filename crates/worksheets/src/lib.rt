@@ -7,112 +7,209 @@
 // stands nothing, so only an m-mer for which letters are left exists, and where none can exist any more the ways are a power of four.
 #![tactic(auto)]
 
-ghost use Rattle.std.specs.Prelude.{◌≡◌, suc, ◌-◌, ◌≤◌, ◌<◌, min};
+ghost use Rattle.std.specs.Prelude.{◌≡◌, suc, ◌+◌, ◌-◌, ◌^◌, ◌≤◌, ◌<◌, min, slice_index};
+ghost use Rattle.definitions.specs.Lists.{tabulate};
 ghost use Rattle.definitions.specs.Outcomes.{worksheet_outcome};
 ghost use Rattle.laws.specs.Rooms.{Written};
-ghost use Rattle.powers.specs.Powers.{PowersAre};
-ghost use Rattle.states.specs.Tables.{Known, All, AlphabetsOf};
-ghost use Rattle.worksheets.specs.Columns.{BansOf, MovesOf, NextsOf, StatesOf, entry_of, EntryReady, CaughtIs, EndIs, EndsAre, ReachIs, LastsIs, led_to, AllowedBy, way_of, sum_of, WayReady, SumReady, RowReady, FreeReady, TurnReady, Turned, Countable, CountedBy, AntemersAre, PostmersAre, SheetIs};
+ghost use Rattle.states.specs.Tables.{Known};
+ghost use Rattle.worksheets.specs.Columns.{StatesOf, EntryIs, CaughtIs, EndIs, EndsAre, ReachIs, LastsIs, led_to, AllowedBy, way_of, sum_of, WayReady, SumReady, RowReady, TurnReady, Turned, Countable, CountedBy, AntemersAre, PostmersAre};
 ghost use Rattle.worksheets.specs.Answers.{worked};
 
-// How a letter is marked in the special alphabets: `powers::BELOW` and `powers::EQUAL`, in 64 bits as the tables are read.
-const BELOW: u64 = 0;
-
-const EQUAL: u64 = 1;
-
-// More letters than are ever left, as `states` has it, and so above every row.
-const NEVER: u64 = 64;
+use refusals::Refusal;
+use states::{NEVER, States};
+use std::cmp::Ordering;
 
 // A state above all others, where a banned letter leads: there are no ways from it.
 const NOWHERE: u8 = 32;
 
-// What a table has at row i for w's own letter at place p.
-fn own_entry(i: u64, p: u64, own: &[u8; 32], table: &[u8; 128]) -> u64
-    requires { EntryReady i p own.now table.now }
-    ensures { result ≡ entry_of i p own.now table.now }
-{
-    let letter = own[p as usize] as u64;
-    table[(4 * i + letter) as usize] as u64
+// What a worksheet is made from: k, m, the states of a word of m letters, and the powers of four.
+#[derive(Clone, Copy)]
+struct Source<'s> {
+    k: u64,
+    m: u64,
+    states: &'s States,
+    powers: &'s [u64; 32],
+    ghost in_range: { (0 < m) × (m ≤ k) × (k ≤ 31) },
+    ghost known: { ∥ Known (λ ρ w. StatesOf ρ w m states.now) ∥₁ },
+    ghost powers_are: { powers.now ≡ tabulate (λ n. 4 ^ n) 32 },
 }
 
-// Whether the m-mer that has the first i letters of w and then w's first letters again comes out below w, or is w.
-fn caught(m: u64, i: u64, own: &[u8; 32], marks: &[u8; 128]) -> bool
-    requires known { Known (λ ρ w. AlphabetsOf ρ w m own.now marks.now) }
-    requires in_range { i ≤ m }
-    ensures { All (λ ρ w. AlphabetsOf ρ w m own.now marks.now) (λ ρ w. CaughtIs ρ w i result) }
-{
-    let mut j: u64 = 0;
-    while i + j < m {
-        let mark = own_entry(i + j, j, own, marks);
-        if mark != EQUAL {
-            return mark == BELOW;
+// What is counted: the state whose ways the rows hold, how many letters follow the words that are counted, below which state there are ways, and
+// the last row.
+#[derive(Clone, Copy)]
+struct Side {
+    start: u64,
+    follow: u64,
+    live: u64,
+    rows: u64,
+    ghost some: { 0 < start + follow },
+    ghost few: { start + follow + rows ≤ 31 },
+}
+
+impl<'s> Source<'s> {
+    ghost use Rattle.worksheets.specs.Sources.{Each};
+
+    // w's own letter at a place.
+    fn own_letter(&self, p: u64) -> u64
+        requires { p < 32 }
+        ensures own { result ≡ slice_index self.now.states.now.own p }
+        ensures letter { result < 4 }
+    {
+        self.states.own[p as usize] as u64
+    }
+
+    // What a table has at row i for w's own letter at place p.
+    fn own_entry<E: Copy>(&self, i: u64, p: u64, table: &[E; 128]) -> E
+        requires { (i < 32) × (p < 32) }
+        ensures { EntryIs i p self.now.states.now table.now result }
+    {
+        table[(4 * i + self.own_letter(p)) as usize]
+    }
+
+    // Whether the m-mer that has the first i letters of w and then w's first letters again comes out below w, or is w.
+    fn caught(&self, i: u64) -> bool
+        requires { i ≤ self.now.m }
+        ensures { Each self.now (λ ρ w. CaughtIs ρ w i result) }
+    {
+        for j in 0..self.m - i {
+            match self.own_entry(i + j, j, &self.states.marks) {
+                Ordering::Less => return true,
+                Ordering::Equal => {}
+                Ordering::Greater => return false,
+            }
         }
-        j += 1;
+        true
     }
-    true
-}
 
-// The ways to end an antemer at state i, 1 or 0, by those at the state that i falls to.
-fn end_at(fallen: u64, m: u64, i: u64, own: &[u8; 32], marks: &[u8; 128]) -> u64
-    requires known { Known (λ ρ w. AlphabetsOf ρ w m own.now marks.now) }
-    requires in_range { i ≤ m }
-    ensures { All (λ ρ w. AlphabetsOf ρ w m own.now marks.now) (λ ρ w. EndIs ρ w i fallen result) }
-{
-    if fallen == 0 {
-        return 0;
+    // The ways to end an antemer at state i, 1 or 0, by those at the state that i falls to.
+    fn end_at(&self, fallen: u64, i: u64) -> u64
+        requires { i ≤ self.now.m }
+        ensures { Each self.now (λ ρ w. EndIs ρ w i fallen result) }
+    {
+        if fallen == 0 || self.caught(i) { 0 } else { 1 }
     }
-    if caught(m, i, own, marks) {
-        return 0;
-    }
-    1
-}
 
-// Below which state antemers stay: w's own letters lead from state to state until one of them is banned, or up to w itself.
-fn reach(m: u64, own: &[u8; 32], ban: &[u8; 128]) -> u64
-    requires { Known (λ ρ w. BansOf ρ w m own.now ban.now) }
-    ensures { All (λ ρ w. BansOf ρ w m own.now ban.now) (λ ρ w. ReachIs ρ w result) }
-{
-    let mut i: u64 = 0;
-    while i + 1 < m {
-        if own_entry(i, i, own, ban) < NEVER {
-            return i + 1;
+    // Below which state antemers stay: w's own letters lead from state to state until one of them is banned, or up to w itself.
+    fn reach(&self) -> u64
+        ensures { Each self.now (λ ρ w. ReachIs ρ w result) }
+    {
+        for i in 1..self.m {
+            if self.own_entry(i - 1, i - 1, &self.states.ban) < NEVER {
+                return i;
+            }
         }
-        i += 1;
+        self.m
     }
-    m
-}
 
-// For each state below `live` the ways to end an antemer there, 1 or 0; the others have none.
-fn ends(m: u64, live: u64, own: &[u8; 32], marks: &[u8; 128], next: &[u8; 128]) -> [u64; 64]
-    requires known { Known (λ ρ w. NextsOf ρ w m own.now marks.now next.now) }
-    requires in_range { (0 < live) × (live ≤ m) }
-    ensures { All (λ ρ w. NextsOf ρ w m own.now marks.now next.now) (λ ρ w. EndsAre ρ w live result) }
-{
-    let mut ends: [u64; 64] = [0; 64];
-    ends[0] = 1;
-    let mut fall: u64 = 0;
-    let mut i: u64 = 1;
-    while i < live {
-        ends[i as usize] = end_at(ends[fall as usize], m, i, own, marks);
-        fall = own_entry(fall, i, own, next);
-        i += 1;
+    // For each state below `live` the ways to end an antemer there, 1 or 0; the others have none.
+    fn ends(&self, live: u64) -> [u64; 64]
+        requires { (0 < live) × (live ≤ self.now.m) }
+        ensures { Each self.now (λ ρ w. EndsAre ρ w live result) }
+    {
+        let mut ends: [u64; 64] = [0; 64];
+        ends[0] = 1;
+        let mut fall: u64 = 0;
+        for i in 1..live {
+            ends[i as usize] = self.end_at(ends[fall as usize], i);
+            fall = self.own_entry(fall, i, &self.states.next) as u64;
+        }
+        ends
     }
-    ends
-}
 
-// In how many rows the postmers begin with w at all: w's own letters are not banned in it while so few letters follow.
-fn lasts(m: u64, own: &[u8; 32], ban: &[u8; 128]) -> u64
-    requires { Known (λ ρ w. BansOf ρ w m own.now ban.now) }
-    ensures { All (λ ρ w. BansOf ρ w m own.now ban.now) (λ ρ w. LastsIs ρ w result) }
-{
-    let mut rows: u64 = NEVER;
-    let mut j: u64 = 0;
-    while j < m {
-        let left = own_entry(j, j, own, ban);
-        rows = powers::lesser(rows, left + j - m);
-        j += 1;
+    // In how many rows the postmers begin with w at all: w's own letters are not banned in it while so few letters follow.
+    fn lasts(&self) -> u64
+        ensures { Each self.now (λ ρ w. LastsIs ρ w result) }
+    {
+        let mut rows = NEVER as u64;
+        for j in 0..self.m {
+            let left = self.own_entry(j, j, &self.states.ban) as u64;
+            rows = rows.min(left + j - self.m);
+        }
+        rows
     }
-    rows
+
+    // The state that each letter leads to from each state, or NOWHERE where it is banned with so many letters left. From m letters left on the same
+    // letters are banned.
+    fn allowed_letters(&self, left: u64) -> [u8; 128]
+        requires { left < 64 }
+        ensures { AllowedBy (min left self.now.m) self.now.states.now.next self.now.states.now.ban result }
+    {
+        let few = left.min(self.m) as u8;
+        let mut allowed = [NOWHERE; 128];
+        for (c, to) in allowed.iter_mut().enumerate() {
+            *to = leads_to(few, self.states.ban[c], self.states.next[c]);
+        }
+        allowed
+    }
+
+    // Writes the next row of a side, the ways by one letter more than are done, and gives those from the start. From the states in which no m-mer
+    // can exist any more they are a power of four; a state that the start cannot reach in the rows to come is passed over.
+    fn next_row(&self, side: Side, done: u64, allowed: &[u8; 128], ways: &mut [u64; 64]) -> u64
+        requires whole { side.start + side.follow ≡ self.now.m }
+        requires more { done < side.rows }
+        requires ready { ∥ TurnReady self.now.m side.rows side.start side.follow side.live done allowed.now ways.old ∥₁ }
+        ensures { Turned self.now.m side.rows side.start side.follow side.live done allowed.now ways.old ways.new result }
+    {
+        let r = done + 1;
+        let free = self.m.saturating_sub(r + side.follow);
+        let needed = side.live.min(side.start + side.rows - done);
+        ways_row(free, needed, done, allowed, ways);
+        free_row(free, r, self.powers[r as usize], ways);
+        ways[(r + side.start) as usize]
+    }
+
+    // The column of a side, from the ways to complete each state by no letter: row r, up to the last of so many, holds the ways to complete the
+    // start by r letters. The table of allowed letters is made anew for a row where it differs from the last one.
+    fn column(&self, side: Side, ways: &mut [u64; 64]) -> [u64; 31]
+        requires whole { side.start + side.follow ≡ self.now.m }
+        requires countable { ∥ Countable self.now.m side.rows side.start side.follow side.live ways.old self.now.states.now.next self.now.states.now.ban ∥₁ }
+        ensures { CountedBy self.now.m side.rows side.start side.follow side.live ways.old self.now.states.now.next self.now.states.now.ban result }
+    {
+        let mut column: [u64; 31] = [0; 31];
+        column[0] = ways[side.start as usize];
+        let mut allowed = self.allowed_letters(1 + side.follow);
+        for done in 0..side.rows {
+            let r = done + 1;
+            column[r as usize] = self.next_row(side, done, &allowed, ways);
+            let left = r + side.follow;
+            if left < self.m {
+                allowed = self.allowed_letters(left + 1);
+            }
+        }
+        column
+    }
+
+    // The column of the antemers. They are counted from state 0, with w to follow.
+    fn antemers(&self) -> [u64; 31]
+        ensures { Each self.now (λ ρ w. AntemersAre ρ w self.now.k self.now.m result) }
+    {
+        let live = self.reach();
+        let side = Side {
+            start: 0,
+            follow: self.m,
+            live,
+            rows: self.k - self.m,
+        };
+        let mut first = self.ends(live);
+        self.column(side, &mut first)
+    }
+
+    // The column of the postmers. They are counted from state m, with nothing to follow, in the rows in which w itself is allowed.
+    fn postmers(&self) -> [u64; 31]
+        ensures { Each self.now (λ ρ w. PostmersAre ρ w self.now.k self.now.m result) }
+    {
+        let last = self.lasts();
+        let live = self.m + 1;
+        let side = Side {
+            start: self.m,
+            follow: 0,
+            live,
+            rows: (self.k - self.m).min(last - 1),
+        };
+        let mut first: [u64; 64] = [0; 64];
+        free_row(live, 0, 1, &mut first);
+        self.column(side, &mut first)
+    }
 }
 
 // The state that a letter leads to, or NOWHERE where it is banned with so many letters left.
@@ -120,21 +217,6 @@ fn leads_to(left: u8, ban: u8, next: u8) -> u8
     ensures { result ≡ led_to left ban next }
 {
     if left < ban { next } else { NOWHERE }
-}
-
-// The same for every state and letter. From m letters left on the same letters are banned.
-fn allowed_letters(m: u64, left: u64, next: &[u8; 128], ban: &[u8; 128]) -> [u8; 128]
-    requires { left < 64 }
-    ensures { AllowedBy (min left m) next.now ban.now result }
-{
-    let few = powers::lesser(left, m) as u8;
-    let mut allowed: [u8; 128] = [NOWHERE; 128];
-    let mut c: usize = 0;
-    while c < 128 {
-        allowed[c] = leads_to(few, ban[c], next[c]);
-        c += 1;
-    }
-    allowed
 }
 
 // The ways on by one letter, read in the part of the ways from `done` on: where that begins is then computed once for a row.
@@ -167,9 +249,7 @@ fn ways_row(lo: u64, hi: u64, done: u64, allowed: &[u8; 128], ways: &mut [u64; 6
     requires { RowReady lo hi done allowed.now ways.old }
     ensures { Written lo hi (suc done) (λ i. sum_of i done allowed.now ways.old) ways.old ways.new }
 {
-    let mut i = hi;
-    while lo < i {
-        i -= 1;
+    for i in (lo..hi).rev() {
         let sum = ways_on(i, done, allowed, ways);
         ways[(done + 1 + i) as usize] = sum;
     }
@@ -177,128 +257,10 @@ fn ways_row(lo: u64, hi: u64, done: u64, allowed: &[u8; 128], ways: &mut [u64; 6
 
 // Writes the ways of the states below `free`, which are all the same, with r letters.
 fn free_row(free: u64, r: u64, power: u64, ways: &mut [u64; 64])
-    requires { FreeReady free r ways.old }
+    requires { r + free ≤ 64 }
     ensures { Written 0 free r (λ i. power) ways.old ways.new }
 {
-    let mut i: u64 = 0;
-    while i < free {
-        ways[(r + i) as usize] = power;
-        i += 1;
-    }
-}
-
-// What is counted: the state whose ways the rows hold, how many letters follow the words that are counted, and below which state there are ways.
-#[derive(Clone, Copy)]
-struct Side {
-    start: u64,
-    follow: u64,
-    live: u64,
-}
-
-// Writes the next row of a side, the ways by one letter more than are done, and gives those from the start. From the states in which no m-mer
-// can exist any more they are a power of four; a state that the start cannot reach in the rows to come is passed over.
-fn next_row(
-    m: u64,
-    rows: u64,
-    done: u64,
-    side: Side,
-    powers: &[u64; 32],
-    allowed: &[u8; 128],
-    ways: &mut [u64; 64],
-) -> u64
-    requires turn_ready { TurnReady m rows side.start side.follow side.live done allowed.now ways.old }
-    requires powers_are { PowersAre powers.now }
-    ensures { Turned m rows side.start side.follow side.live done allowed.now ways.old ways.new result }
-{
-    let r = done + 1;
-    let free = m - powers::lesser(m, r + side.follow);
-    let needed = powers::lesser(side.live, side.start + rows - done);
-    ways_row(free, needed, done, allowed, ways);
-    free_row(free, r, powers[r as usize], ways);
-    ways[(r + side.start) as usize]
-}
-
-// The column of a side, from the ways to complete each state by no letter: row r, up to the last of so many, holds the ways to complete the
-// start by r letters. The table of allowed letters is made anew for a row where it differs from the last one.
-fn column(
-    m: u64,
-    rows: u64,
-    side: Side,
-    ways: &mut [u64; 64],
-    powers: &[u64; 32],
-    next: &[u8; 128],
-    ban: &[u8; 128],
-) -> [u64; 31]
-    requires countable { Countable m rows side.start side.follow side.live ways.old next.now ban.now }
-    requires powers_are { PowersAre powers.now }
-    ensures { CountedBy m rows side.start side.follow side.live ways.old next.now ban.now result }
-{
-    let mut column: [u64; 31] = [0; 31];
-    column[0] = ways[side.start as usize];
-    let mut allowed = allowed_letters(m, 1 + side.follow, next, ban);
-    let mut done: u64 = 0;
-    while done < rows {
-        let r = done + 1;
-        column[r as usize] = next_row(m, rows, done, side, powers, &allowed, ways);
-        let left = r + side.follow;
-        if left < m {
-            allowed = allowed_letters(m, left + 1, next, ban);
-        }
-        done = r;
-    }
-    column
-}
-
-// The column of the antemers. They are counted from state 0, with w to follow. The tables are fields of one record, and so are lent together ('s).
-fn antemers<'s>(
-    k: u64,
-    m: u64,
-    own: &'s [u8; 32],
-    marks: &'s [u8; 128],
-    next: &'s [u8; 128],
-    ban: &'s [u8; 128],
-    powers: &[u64; 32],
-) -> [u64; 31]
-    requires known { Known (λ ρ w. StatesOf ρ w m own.now marks.now next.now ban.now) }
-    requires in_range { (m ≤ k) × (k ≤ 31) }
-    requires powers_are { PowersAre powers.now }
-    ensures { All (λ ρ w. StatesOf ρ w m own.now marks.now next.now ban.now) (λ ρ w. AntemersAre ρ w k m result) }
-{
-    let live = reach(m, own, ban);
-    let mut first = ends(m, live, own, marks, next);
-    let side = Side {
-        start: 0,
-        follow: m,
-        live,
-    };
-    column(m, k - m, side, &mut first, powers, next, ban)
-}
-
-// The column of the postmers. They are counted from state m, with nothing to follow, in the rows in which w itself is allowed.
-fn postmers<'s>(
-    k: u64,
-    m: u64,
-    own: &'s [u8; 32],
-    next: &'s [u8; 128],
-    ban: &'s [u8; 128],
-    powers: &[u64; 32],
-) -> [u64; 31]
-    requires known { Known (λ ρ w. MovesOf ρ w m own.now next.now ban.now) }
-    requires in_range { (m ≤ k) × (k ≤ 31) }
-    requires powers_are { PowersAre powers.now }
-    ensures { All (λ ρ w. MovesOf ρ w m own.now next.now ban.now) (λ ρ w. PostmersAre ρ w k m result) }
-{
-    let last = lasts(m, own, ban);
-    let rows = powers::lesser(k - m, last - 1);
-    let live = m + 1;
-    let mut first: [u64; 64] = [0; 64];
-    free_row(live, 0, 1, &mut first);
-    let side = Side {
-        start: m,
-        follow: 0,
-        live,
-    };
-    column(m, rows, side, &mut first, powers, next, ban)
+    ways[r as usize..(r + free) as usize].fill(power);
 }
 
 // The two columns of a worksheet.
@@ -308,40 +270,21 @@ pub struct Sheet {
     pub postmers: [u64; 31],
 }
 
-// The worksheet of a word of m letters, from its states.
-fn sheet_of(k: u64, m: u64, s: states::States) -> Sheet
-    requires known { Known (λ ρ w. StatesOf ρ w m s.own s.marks s.next s.ban) }
-    requires in_range { (m ≤ k) × (k ≤ 31) }
-    ensures { All (λ ρ w. StatesOf ρ w m s.own s.marks s.next s.ban) (λ ρ w. SheetIs ρ w k m result.antemers result.postmers) }
-{
-    let powers = powers::powers();
-    let antemers = antemers(k, m, &s.own, &s.marks, &s.next, &s.ban, &powers);
-    let postmers = postmers(k, m, &s.own, &s.next, &s.ban, &powers);
-    Sheet { antemers, postmers }
-}
-
-// What the worksheet answers: the refusal, the two columns.
-#[derive(Clone, Copy)]
-pub struct Worked {
-    pub refusal: u64,
-    pub sheet: Sheet,
-}
-
 // The worksheet of a word: row a holds the number of antemers of length a, and of postmers of length m + a that begin with the word; rows above
 // k - m hold 0 twice. Refusals 1 to 4.
-pub fn worksheet(k: u64, m: u64, key: u64, word: u64) -> Worked
+pub fn worksheet(k: u64, m: u64, key: u64, word: u64) -> Result<Sheet, Refusal>
     ensures { worked result ≡ worksheet_outcome k m key word }
 {
-    let prepared = states::prepare(k, m, key, word);
-    if prepared.refusal != 0 {
-        return Worked {
-            refusal: prepared.refusal,
-            sheet: Sheet {
-                antemers: [0; 31],
-                postmers: [0; 31],
-            },
-        };
-    }
-    let sheet = sheet_of(k, m, prepared.states);
-    Worked { refusal: 0, sheet }
+    let states = states::prepare(k, m, key, word)?;
+    let powers = powers::powers();
+    let source = Source {
+        k,
+        m,
+        states: &states,
+        powers: &powers,
+    };
+    Ok(Sheet {
+        antemers: source.antemers(),
+        postmers: source.postmers(),
+    })
 }
