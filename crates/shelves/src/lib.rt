@@ -53,14 +53,14 @@ struct Beginning {
 
 // What a beginning leads to: the number of the word's letters, where each letter leads from each state, and where it is banned.
 #[derive(Drop)]
-struct Acceptor<'a> {
+struct Acceptor {
     m: u64,
+    ban: [u8; 128],
     moves: [u8; 256],
-    ban: &'a [u8; 128],
-    ghost tables: { Tables m moves ban.now } by { Tables-prop m moves ban.now },
+    ghost tables: { Tables m moves ban } by { Tables-prop m moves ban },
 }
 
-impl Acceptor<'_> {
+impl Acceptor {
     ghost use Rattle.shelves.specs.Going.{Ready, RowReady, WaysTo, ways_from, ways_below, Longer};
 
     // The ways under a letter, where so many letters are left, this one among them; none where it is banned.
@@ -159,10 +159,10 @@ fn run(numbers: Stretch, room: &mut [u64]) -> usize
 struct Descent<'a> {
     k: u64,
     word: u64,
-    acceptor: &'a Acceptor<'a>,
+    acceptor: &'a Acceptor,
     ways: &'a [u64; 2048],
     powers: &'a [u64; 32],
-    ghost complete: { Complete k acceptor.now.m word acceptor.now.moves acceptor.now.ban.now ways.now powers.now },
+    ghost complete: { Complete k acceptor.now.m word acceptor.now.moves acceptor.now.ban ways.now powers.now },
 }
 
 impl Descent<'_> {
@@ -237,8 +237,8 @@ fn page_by(
 {
     let acceptor = Acceptor {
         m,
+        ban: states.ban,
         moves: moves_of(m, &states.next),
-        ban: &states.ban,
     };
     let mut ways: [u64; 2048] = [0; 2048];
     acceptor.ways_table(k, &mut ways);

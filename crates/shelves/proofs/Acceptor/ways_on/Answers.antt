@@ -10,7 +10,7 @@ use Rattle.shelves.proofs.Acceptor.ways_on.Goals.{After-ways_under-t_ways}
 summed : (c : goal.After-ways_under-t_ways)
     → let args = c.args in
     let sum = c.ways_under-a_ways.result + c.ways_under-c_ways.result + c.ways_under-g_ways.result + c.ways_under-t_ways.result in
-    (sum ≡ ways_from args.self.now.moves args.self.now.ban.now args.state args.left) × (sum ≤ 4 ^ 31)
+    (sum ≡ ways_from args.self.now.moves args.self.now.ban args.state args.left) × (sum ≤ 4 ^ 31)
 summed c =
     four-ways c.args.self.now.tables c.requires c.ways_under-a_ways.ensures c.ways_under-c_ways.ensures
     c.ways_under-g_ways.ensures c.ways_under-t_ways.ensures

@@ -9,4 +9,4 @@ decreases-fill l = l.at.left
 
 abbrev pub invariant-loop-letter : goal.invariant-loop-letter
 invariant-loop-letter l =
-    Going l.self.acceptor.now.moves l.self.acceptor.now.ban.now l.at.left l.at.state l.at.begun l.skip l.initial.room l.room l.passed l.written l.letter
+    Going l.self.acceptor.now.moves l.self.acceptor.now.ban l.at.left l.at.state l.at.begun l.skip l.initial.room l.room l.passed l.written l.letter
