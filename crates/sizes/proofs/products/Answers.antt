@@ -1,14 +1,6 @@
 -- `sizes::products` meets its contract.
 -- Assumes nothing.
-use Prim.Native.Nat.{ℕ, zero, suc, ◌+◌, ◌-◌, ◌*◌, ◌^◌, ◌≤◌}
-use mathlib.Core.Bool.{Bool, true, false}
-use mathlib.Core.List.{List}
-use mathlib.Core.Path.{◌≡◌, refl, sym, ap, ◌∙◌}
-use native.Mathlib.Numerals.{add-one}
-use native.Mathlib.Omega.{arith}
-use borrow.Author.Tests.{leb-true, leb-false}
-use lib.Dec.{leb}
-use lib.ListN.{get_or}
+use Rattle.std.proofs.Common.{ℕ, zero, suc, ◌+◌, ◌-◌, ◌*◌, ◌^◌, ◌≤◌, Bool, true, false, List, ◌≡◌, refl, sym, ap, ◌∙◌, add-one, arith, leb-true, leb-false, leb, get_or}
 use Rattle.definitions.specs.Lists.{tabulate, total}
 use Rattle.laws.specs.Split.{product_sum}
 use Rattle.laws.proofs.Split.{total-last}
@@ -32,43 +24,22 @@ row_fits : (n : ℕ) (before after : List ℕ) (a : ℕ) → product_sum n befor
     → product_sum n before after a + get_or before (n - a) 0 * get_or after a 0 ≤ 4 ^ 31
 row_fits n before after a h k = omega (arith, row_more n before after a, part-le (λ i. get_or before (n - i) 0 * get_or after i 0) (suc a) (suc n) (omega arith))
 
-pub loop-a-init : goal.loop-a-init
-loop-a-init c = (omega arith, refl)
-
-pub offset_bounds-sheet-before : goal.offset_bounds-sheet-before
-offset_bounds-sheet-before c = omega (arith, c.requires.0)
-
-pub bounds-sheet-before : goal.bounds-sheet-before
-bounds-sheet-before c = omega (arith, c.requires.0)
-
-pub offset_bounds-sheet-a : goal.offset_bounds-sheet-a
-offset_bounds-sheet-a c = omega (arith, c.requires.0)
-
-pub bounds-sheet-a : goal.bounds-sheet-a
-bounds-sheet-a c = omega (arith, c.requires.0)
-
-pub overflow_mul-product : goal.overflow_mul-product
-overflow_mul-product c =
-    let sheet = c.args.sheet in
+pub overflow_mul-sum : goal.overflow_mul-sum
+overflow_mul-sum c =
+    let sheet = c.args.sheet.now in
     omega (arith, row_fits c.args.n sheet.antemers sheet.postmers c.loop-a.a c.requires.1 (omega arith))
 
 pub overflow_add-sum : goal.overflow_add-sum
 overflow_add-sum c =
-    let sheet = c.args.sheet in
-    let at = c.loop-a in
-    omega (arith, at.invariant.1, row_fits c.args.n sheet.antemers sheet.postmers at.a c.requires.1 (omega arith))
-
-pub overflow_add-a : goal.overflow_add-a
-overflow_add-a c = omega (arith, c.requires.0)
+    let sheet = c.args.sheet.now in
+    omega (arith, row_fits c.args.n sheet.antemers sheet.postmers c.loop-a.a c.requires.1 (omega arith))
 
 pub loop-a-preserved : goal.loop-a-preserved
 loop-a-preserved c =
-    let sheet = c.args.sheet in
-    let at = c.loop-a in
-    (omega arith, rw (at.invariant.1, add-one) (sym (row_more c.args.n sheet.antemers sheet.postmers at.a)))
+    let sheet = c.args.sheet.now in
+    rw (c.loop-a.invariant, add-one) (sym (row_more c.args.n sheet.antemers sheet.postmers c.loop-a.a))
 
 pub returns : goal.returns
 returns c =
-    let at = c.loop-a in
-    let end : at.a ≡ suc c.args.n = omega arith in
-    at.invariant.1 ∙ ap (product_sum c.args.n c.args.sheet.antemers c.args.sheet.postmers) end
+    let end : c.loop-a.a ≡ suc c.args.n = omega arith in
+    c.loop-a.invariant ∙ ap (product_sum c.args.n c.args.sheet.now.antemers c.args.sheet.now.postmers) end
