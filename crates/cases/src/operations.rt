@@ -1,6 +1,7 @@
 // A case of each operation: whether what is asked comes out as it must. Room is lent full of nines, so that what is written is seen, and what must
 // stay as it was.
 use crate::columns::Case;
+use refusals::Refusal;
 use std::iter;
 
 // Whether the case of an operation holds. No other operation does.
@@ -36,10 +37,24 @@ where
         .all(|(entry, number)| (*entry).into() == number)
 }
 
+// What an operation answered, as the columns have it: the refusal and the number, zeros for what there is not.
+fn told(answered: Result<u64, Refusal>) -> (u64, u64) {
+    match answered {
+        Ok(number) => (0, number),
+        Err(refusal) => (refusal.number(), 0),
+    }
+}
+
+// The same, where the place of a bad letter comes before the number.
+fn told_with_place(answered: Result<u64, Refusal>) -> (u64, u64, u64) {
+    let place = answered.map_or_else(Refusal::place, |_| 0);
+    let (refusal, number) = told(answered);
+    (refusal, place, number)
+}
+
 // Packing a text: the refusal, the place of a bad letter, the word.
 fn pack(text: &[u8], case: &Case<'_>) -> bool {
-    let got = words::pack(text);
-    (got.refusal == case.refusal) & (got.place == case.first) & (got.word == case.second)
+    told_with_place(words::pack(text)) == (case.refusal, case.first, case.second)
 }
 
 // Unpacking the word as one of k letters: the refusal, how many letters are written, and the room of eight after, which is the text.
@@ -47,25 +62,27 @@ fn unpack(case: &Case<'_>) -> bool {
     let mut lent = [b'9'; 8];
     let takes = case.room.min(8) as usize;
     let got = words::unpack(case.word, case.k, &mut lent[..takes]);
-    (got.refusal == case.refusal) & (got.written == case.first) & (&lent[..] == case.text)
+    (told(got) == (case.refusal, case.first)) & (&lent[..] == case.text)
 }
 
 // The vigemin of the k-mer: the refusal, the vigemin, its position.
 fn vigemin(case: &Case<'_>) -> bool {
     let got = vigemins::vigemin(case.k, case.m, case.key, case.word);
-    (got.refusal == case.refusal) & (got.word == case.first) & (got.position == case.second)
+    let position = got.map_or(0, |found| found.position);
+    let (refusal, word) = told(got.map(|found| found.word));
+    (refusal, word, position) == (case.refusal, case.first, case.second)
 }
 
 // The size: the refusal, the number of k-mers.
 fn size(case: &Case<'_>) -> bool {
     let got = sizes::size(case.k, case.m, case.key, case.word);
-    (got.refusal == case.refusal) & (got.count == case.first)
+    told(got) == (case.refusal, case.first)
 }
 
 // The sum of the sizes of the words below this one.
 fn sum_of_sizes(case: &Case<'_>) -> bool {
     let sum = (0..case.word)
-        .map(|word| sizes::size(case.k, case.m, case.key, word).count)
+        .filter_map(|word| sizes::size(case.k, case.m, case.key, word).ok())
         .fold(0u64, |sum, size| sum.wrapping_add(size));
     sum == case.first
 }
@@ -73,18 +90,19 @@ fn sum_of_sizes(case: &Case<'_>) -> bool {
 // The plain counter: the refusal, the number of antemers.
 fn antemers(case: &Case<'_>) -> bool {
     let got = counters::antemers(case.k, case.m, case.key, case.word);
-    (got.refusal == case.refusal) & (got.count == case.first)
+    told(got) == (case.refusal, case.first)
 }
 
 // The worksheet: the refusal, and rows 0 and 1 of the antemers and of the postmers; all other rows hold 0 twice.
 fn worksheet(case: &Case<'_>) -> bool {
     let got = worksheets::worksheet(case.k, case.m, case.key, case.word);
-    let sheet = got.sheet;
+    let (refusal, antemers, postmers) = match got {
+        Ok(sheet) => (0, sheet.antemers, sheet.postmers),
+        Err(refusal) => (refusal.number(), [0; 31], [0; 31]),
+    };
     let ante = [case.first, case.second].into_iter().chain(iter::repeat(0));
     let post = case.after.into_iter().take(2).chain(iter::repeat(0));
-    (got.refusal == case.refusal)
-        & room_has(&sheet.antemers, ante)
-        & room_has(&sheet.postmers, post)
+    (refusal == case.refusal) & room_has(&antemers, ante) & room_has(&postmers, post)
 }
 
 // A page: the refusal, how many k-mers are written, and the room of five after.
@@ -93,15 +111,13 @@ fn page(case: &Case<'_>) -> bool {
     let takes = case.room.min(5) as usize;
     let room = &mut lent[..takes];
     let got = shelves::page(case.k, case.m, case.key, case.word, case.start, room);
-    (got.refusal == case.refusal)
-        & (got.written == case.first)
-        & room_has(&lent, case.after.into_iter())
+    (told(got) == (case.refusal, case.first)) & room_has(&lent, case.after.into_iter())
 }
 
 // A scan: the refusal, the place of a bad letter, the number of windows.
 fn scanned(seq: &[u8], room: &mut [u32], case: &Case<'_>) -> bool {
     let got = scans::scan(case.k, case.m, case.key, seq, room);
-    (got.refusal == case.refusal) & (got.place == case.first) & (got.windows == case.second)
+    told_with_place(got) == (case.refusal, case.first, case.second)
 }
 
 // A scan of the text: what it answers, and the room of six after.

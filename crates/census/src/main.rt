@@ -5,6 +5,7 @@
 
 ghost use Rattle.std.specs.Prelude.{◌+◌, ◌<◌, ◌≤◌, length, All};
 
+use refusals::Refusal;
 use std::{fmt, io, iter};
 
 // The greatest k.
@@ -196,16 +197,19 @@ impl<R: Print> Comparison<'_, R> {
         &self,
         what: &str,
         of: u64,
-        refusal: u64,
-        answered: u64,
+        answered: Result<u64, Refusal>,
         counted: u64,
     ) -> Result<(), Differs> {
-        if (refusal == 0) & (answered == counted) {
+        if answered == Ok(counted) {
             return Ok(());
         }
+        let (refusal, answer) = match answered {
+            Ok(answer) => (0, answer),
+            Err(refusal) => (refusal.number(), 0),
+        };
         let settings = self.settings;
         let _told = println!(self.rt;
-            "{what} differs: {settings}, of {of}: refusal {refusal}, answer {answered}, counted {counted}"
+            "{what} differs: {settings}, of {of}: refusal {refusal}, answer {answer}, counted {counted}"
         );
         Err(Differs)
     }
@@ -215,14 +219,10 @@ impl<R: Print> Comparison<'_, R> {
         let Settings { k, m, key } = self.settings;
         let mer = self.settings.plain_vigemin(kmer);
         let found = vigemins::vigemin(k, m, key, kmer);
-        let right = self.same("vigemin", kmer, found.refusal, found.word, mer.word);
-        let placed = self.same(
-            "position of the vigemin",
-            kmer,
-            0,
-            found.position,
-            mer.position,
-        );
+        let word = found.map(|found| found.word);
+        let position = found.map_or(0, |found| found.position);
+        let right = self.same("vigemin", kmer, word, mer.word);
+        let placed = self.same("position of the vigemin", kmer, Ok(position), mer.position);
         right?;
         placed?;
         Ok(mer)
@@ -241,8 +241,7 @@ impl<R: Print> Comparison<'_, R> {
     // Compares the size of a word with what was counted.
     fn size(&self, word: u64, counted: u64) -> Result<(), Differs> {
         let Settings { k, m, key } = self.settings;
-        let size = sizes::size(k, m, key, word);
-        self.same("size", word, size.refusal, size.count, counted)
+        self.same("size", word, sizes::size(k, m, key, word), counted)
     }
 
     // Compares the size of every word with its tally; and the sizes must add up to 4^k.
@@ -253,7 +252,7 @@ impl<R: Print> Comparison<'_, R> {
             sum = sum.wrapping_add(*counted);
         }
         let words = tally.len() as u64;
-        self.same("sum of the sizes", words, 0, sum, power(self.settings.k))
+        self.same("sum of the sizes", words, Ok(sum), power(self.settings.k))
     }
 
     // Compares what a page from a place of the shelf on writes with the k-mers that are due, in a room that is blank before and after.
@@ -267,16 +266,9 @@ impl<R: Print> Comparison<'_, R> {
             .take_while(|(entry, wanted)| **entry == *wanted)
             .count() as u64;
         room.fill(BLANK);
-        let due = due.len() as u64;
-        let written = self.same(
-            "number written by a page",
-            word,
-            paged.refusal,
-            paged.written,
-            due,
-        );
+        let written = self.same("number written by a page", word, paged, due.len() as u64);
         let entries = room.len() as u64;
-        let all = self.same("right entries of a page", word, 0, right, entries);
+        let all = self.same("right entries of a page", word, Ok(right), entries);
         written?;
         all
     }
