@@ -1,147 +1,150 @@
 -- The answer to an input, from its line, the size and the first page.
 -- Assumes nothing.
-use Prim.Native.Nat.{ℕ, zero, suc, ◌-◌, ◌^◌, ◌≤◌, ◌<◌, zero-le}
-use mathlib.Core.Bool.{Bool, true, false, cond}
-use mathlib.Core.List.{List, ◌++◌, map}
-use mathlib.Core.Path.{◌≡◌, refl, sym, ap, ap₂, subst, ◌∙◌}
-use native.Mathlib.Omega.{arith}
-use lib.Dec.{eqb}
-use lib.ListN.{length, get_or, take, drop, length-append, replicate}
+use Rattle.std.proofs.Common.{ℕ, zero, suc, ◌^◌, ◌≤◌, ◌<◌, Bool, true, false, cond, not, Ok, Err, List, ◌++◌, map, length, get_or, take, replicate, ◌≡◌, refl, sym, ap, ap₂, subst, ◌∙◌, arith}
+use Rattle.definitions.specs.Lists.{over}
 use Rattle.definitions.specs.Words.{word, val}
 use Rattle.definitions.specs.Vigemins.{Form, keyed}
 use Rattle.definitions.specs.Shelves.{size, page}
-use Rattle.definitions.specs.Refusals.{Ground, refusal}
+use Rattle.definitions.specs.Refusals.{refusal}
 use Rattle.definitions.specs.Outcomes.{Counted, Paged, shelf_grounds, size_outcome, page_outcome}
-use Rattle.definitions.specs.Cards.{Line as LineRead, read_answer, read_outcome, ascii, decimal, Asked, asks, parts, well_formed, Printed, card_grounds, card_text, text_for, card_outcome, settings, entries}
+use Rattle.definitions.specs.Cards.{Line as LineRead, read_answer, read_outcome, Asked, asks, parts, well_formed, card_grounds, card_text, text_for, settings, entries, Printed, card_outcome}
 use Rattle.laws.specs.Accepted.{ShelfAccepted, word-accepted, size-refusal, size-count}
-use Rattle.laws.specs.Listings.{handed, page-handed, page-written}
+use Rattle.laws.specs.Listings.{page-outcome, handed, page-handed, page-written}
 use Rattle.laws.specs.Cards.{page-words, page-small}
-use Rattle.lines.specs.Answers.{Answer as Line, lined}
-use Rattle.cards.specs.Texts.{Laid, SettingsFit, KmersFit, key_part_text, word_part_text}
-use Rattle.cards.specs.Answers.{Told, asked_of, Wrote, Answers}
-use Rattle.cards.proofs.Laying.{laid_as, laid-left, settings-parts, key-part-most, word-part-most}
+use Rattle.refusals.specs.Numbers.{number_of, number-some}
+use Rattle.refusals.specs.declared.Refusal.{Refusal}
+use Rattle.lines.specs.declared.Line.{Line}
+use Rattle.lines.specs.Answers.{asked_of, lined}
+use Rattle.sizes.specs.Answers.{counted}
+use Rattle.shelves.specs.Answers.{paged}
+use Rattle.cards.specs.Texts.{IsText, IsAsked, AreKmers, refused_text, IsShown, IsRefused}
+use Rattle.cards.proofs.Laying.{text-whole}
 
--- the line of a refusal
-refused-text : (r : ℕ) → (r ≡ 0 → ⊥) → (f : Form) (a : Asked) → card_text r f a ≡ ascii "refused " ++ decimal r ++ ascii "\n"
+-- the text of a refusal, and the text where nothing is refused
+refused-text : (r : ℕ) → 0 < r → (f : Form) (a : Asked) → card_text r f a ≡ refused_text r
 unfolding card_text
-refused-text zero h f a = absurd (h refl)
+refused-text zero h f a = absurd (omega arith)
 refused-text (suc r) h f a = refl
 
--- the text where nothing is refused
 shown-text : (r : ℕ) → r ≡ 0 → (f : Form) (a : Asked)
     → card_text r f a ≡ settings a (size f a.k (word a.m a.word)) ++ entries 0 (page f a.k (word a.m a.word) 0 16)
 unfolding card_text
 shown-text r e f a = rw e
 
--- the grounds of what a line asks for
-abbrev grounds_of : Asked → List Ground
-grounds_of a = shelf_grounds a.k a.m a.key a.word
+-- the text of a refusal is that of an input that is refused
+pub refused-for : (s : List ℕ) (r : Refusal) → IsRefused s r → refused_text (number_of r) ≡ text_for s
+refused-for s r h =
+    let a = asks (parts s) in
+    let f = keyed (word a.m a.key) in
+    sym (ap (λ (n : ℕ). card_text n f a) (sym h) ∙ refused-text (number_of r) (number-some r) f a)
 
-module _ (s : List ℕ) {l : Line} {o : Counted} {r : ℕ} (reads : lined l ≡ read_outcome s) (sized : o ≡ size_outcome l.k l.m l.key l.word) (first : r ≡ cond (eqb l.refusal 0) o.refusal l.refusal) where
-  -- the refusal of the line
-  line-refusal : (t : Bool) → well_formed s ≡ t → l.refusal ≡ cond t 0 10
+-- the refusal of what a line asks for
+abbrev shelf_refusal : Asked → ℕ
+shelf_refusal a = refusal (shelf_grounds a.k a.m a.key a.word)
+
+module _ (s : List ℕ) where
+  -- a malformed line is refused
+  pub line-refused : (r : Refusal) → lined (Err r) ≡ read_outcome s → IsRefused s r
   unfolding read_outcome read_answer
-  line-refusal true e = ap (λ (x : LineRead). x.refusal) reads ∙ rw e
-  line-refusal false e = ap (λ (x : LineRead). x.refusal) reads ∙ rw e
-
-  -- what it asks for
-  line-asks : well_formed s ≡ true → asked_of l.k l.m l.key l.word ≡ asks (parts s)
-  unfolding read_outcome read_answer
-  line-asks e = ap (λ (x : LineRead). x.asked) reads ∙ rw e
-
-  -- the refusal of a malformed line is 10
-  malformed-ten : well_formed s ≡ false → r ≡ 10
-  malformed-ten e = first ∙ rw (line-refusal false e)
-
-  -- and that of any other the size's
-  formed-size : well_formed s ≡ true → r ≡ refusal (shelf_grounds l.k l.m l.key l.word)
-  formed-size e = first ∙ rw (line-refusal true e) (ap (λ (c : Counted). c.refusal) sized ∙ size-refusal l.k l.m l.key l.word)
-
-  -- so it is the first that is met
-  told : r ≡ refusal (card_grounds s)
-  told = go (well_formed s) refl
+  line-refused r e = go (well_formed s) (number-some r) (ap (λ (o : LineRead). o.refusal) e)
     where
-      go : (t : Bool) → well_formed s ≡ t → r ≡ refusal (card_grounds s)
-      go false e = malformed-ten e ∙ rw e
-      go true e = formed-size e ∙ ap (λ (a : Asked). refusal (grounds_of a)) (line-asks e) ∙ rw e
+      go : (t : Bool) → 0 < number_of r → number_of r ≡ (read_answer (cond (not t) 10 0) (asks (parts s))).refusal
+          → number_of r ≡ cond (not t) 10 (shelf_refusal (asks (parts s)))
+      go true h q = absurd (omega arith)
+      go false h q = q
 
-  -- where there is none, the line is well formed
-  formed : r ≡ 0 → well_formed s ≡ true
-  formed z = go (well_formed s) refl
-    where
-      go : (t : Bool) → well_formed s ≡ t → well_formed s ≡ true
-      go true e = e
-      go false e = absurd (omega (arith, malformed-ten e))
+  module _ (l : Line) (reads : lined (Ok l) ≡ read_outcome s) where
+    -- any other is well formed, and asks for what its parts do
+    line-formed : (well_formed s ≡ true) × (asked_of l ≡ asks (parts s))
+    unfolding read_outcome read_answer
+    line-formed = go (well_formed s) refl
+      where
+        go : (t : Bool) → well_formed s ≡ t → (well_formed s ≡ true) × (asked_of l ≡ asks (parts s))
+        go true e = (e, ap (λ (o : LineRead). o.asked) reads ∙ rw e)
+        go false e = let ten : 0 ≡ 10 = ap (λ (o : LineRead). o.refusal) reads ∙ rw e in absurd (omega (arith, ten))
 
-  -- and the shelf is one that is accepted
-  pub accepted : r ≡ 0 → ShelfAccepted l.k l.m l.key l.word
-  accepted z = word-accepted l.m l.k l.m l.key l.word (sym (formed-size (formed z)) ∙ z)
+    -- so it is refused as its shelf is
+    line-told : refusal (card_grounds s) ≡ shelf_refusal (asked_of l)
+    line-told = rw line-formed.0 (ap shelf_refusal (sym line-formed.1))
 
-  -- a refusal was written
-  pub answer-refused : {t : Told} {old room : List ℕ} → (r ≡ 0 → ⊥) → Wrote r (ascii "refused " ++ decimal r ++ ascii "\n") t old room → Answers s t old room
-  answer-refused h w =
-      let a = asks (parts s) in
-      record {
-        refusal = w.refusal ∙ told;
-        laid = laid_as (ap (λ (n : ℕ). card_text n (keyed (word a.m a.key)) a) (sym told) ∙ refused-text r h (keyed (word a.m a.key)) a) w.laid;
-      }
+    -- its size is refused
+    pub size-refused : (r : Refusal) → counted (Err r) ≡ size_outcome l.k l.m l.key l.word → IsRefused s r
+    size-refused r e = ap (λ (o : Counted). o.refusal) e ∙ size-refusal l.k l.m l.key l.word ∙ sym line-told
 
-  -- the settings and the first k-mers were written
-  pub answer-shown : {n : ℕ} {ks old room : List ℕ} → r ≡ 0 → ks ≡ map val (page (keyed (word l.m l.key)) l.k (word l.m l.word) 0 16)
-      → Laid (settings (asked_of l.k l.m l.key l.word) o.count ++ entries 0 (map (word l.k) ks)) n old room
-      → Answers s (record { refusal = 0; length = n }) old room
-  answer-shown {n} {ks} {old} {room} z q w =
-      let a = asked_of l.k l.m l.key l.word in
-      let f = keyed (word l.m l.key) in
-      let v = word l.m l.word in
-      let count : o.count ≡ size f l.k v = ap (λ (c : Counted). c.count) sized ∙ size-count l.k l.m l.key l.word (sym (formed-size (formed z)) ∙ z) in
-      let shown : map (word l.k) ks ≡ page f l.k v 0 16 = ap (map (word l.k)) q ∙ page-words f l.k v 0 16 in
-      let same_text : text_for s ≡ settings a o.count ++ entries 0 (map (word l.k) ks) =
-      ap (λ (b : Asked). card_text (refusal (card_grounds s)) (keyed (word b.m b.key)) b) (sym (line-asks (formed z)))
-      ∙ shown-text (refusal (card_grounds s)) (sym told ∙ z) f a
-      ∙ sym (ap₂ (λ (c : ℕ) (p : List (List ℕ)). settings a c ++ entries 0 p) count shown) in
-      record { refusal = sym z ∙ told; laid = laid_as same_text w }
+    module _ (n : ℕ) (sized : counted (Ok n) ≡ size_outcome l.k l.m l.key l.word) where
+      -- where it is not, nothing is
+      size-none : 0 ≡ shelf_refusal (asked_of l)
+      size-none = ap (λ (o : Counted). o.refusal) sized ∙ size-refusal l.k l.m l.key l.word
 
--- ---- what is written where nothing is refused
+      -- and the shelf is one that is accepted
+      pub shelf : ShelfAccepted l.k l.m l.key l.word
+      shelf = word-accepted l.m l.k l.m l.key l.word (sym size-none)
 
-module _ {k m key w : ℕ} (a : ShelfAccepted k m key w) where
-  -- the first k-mers
-  abbrev first_kmers : List ℕ
-  first_kmers = map val (page (keyed (word m key)) k (word m w) 0 16)
+      -- the settings can be written
+      pub is-asked : IsAsked (asked_of l)
+      is-asked =
+          let few : l.m ≤ 31 = omega (arith, shelf.order.m_fits, shelf.order.k_few) in
+          record {
+            k_few = shelf.order.k_few;
+            key = record { some = shelf.order.m_some; few = few; small = shelf.order.key_small };
+            word = record { some = shelf.order.m_some; few = few; small = shelf.small };
+          }
 
-  -- what the first page wrote
-  pub first-page : {p : Paged} (old : List ℕ) → length old ≡ 16 → p ≡ page_outcome k m key w 0 old → (p.written ≤ 16) × (take p.written p.room ≡ first_kmers)
-  first-page {p} old long e =
-      let written : p.written ≤ length old = omega (arith, ap (λ (q : Paged). q.written) e, page-written a 0 old zero-le) in
-      (omega (arith, long), ap handed e ∙ page-handed a 0 old zero-le ∙ ap (λ (n : ℕ). map val (page (keyed (word m key)) k (word m w) 0 n)) long)
+      -- the first k-mers
+      abbrev first_kmers : List ℕ
+      first_kmers = map val (page (keyed (word l.m l.key)) l.k (word l.m l.word) 0 16)
 
-  -- the settings have room
-  pub settings-fit : {room : ℕ} → 104 ≤ room → SettingsFit k m key w room
-  settings-fit h =
-      record { k_few = a.order.k_few; m_some = a.order.m_some; m_few = omega (arith, a.order.m_fits, a.order.k_few); key_small = a.order.key_small; word_small = a.small; fits = h }
+      -- the first page is not refused
+      pub page-unrefused : (r : Refusal) {room : List ℕ} (old : List ℕ) → paged (Err r) room ≡ page_outcome l.k l.m l.key l.word 0 old → ⊥
+      page-unrefused r old e =
+          omega (arith, number-some r, ap (λ (o : Paged). o.refusal) (e ∙ page-outcome shelf 0 old (omega arith)))
 
-  -- they take at most 104 bytes
-  settings-most : (n : ℕ) → length (settings (asked_of k m key w) n) ≤ 104
-  settings-most n =
-      let few : m ≤ 31 = omega (arith, a.order.m_fits, a.order.k_few) in
-      omega (arith, ap length (settings-parts (asked_of k m key w) n), length-append (key_part_text k m key) (word_part_text m w n), key-part-most k m key (omega (arith, a.order.k_few)) few, word-part-most m w n few)
+      module _ (w : ℕ) {room : List ℕ} (old : List ℕ) (long : length old ≡ 16) (wrote : paged (Ok w) room ≡ page_outcome l.k l.m l.key l.word 0 old) where
+        -- it writes so many
+        pub page-few : w ≤ 16
+        page-few = omega (arith, long, ap (λ (o : Paged). o.written) wrote, page-written shelf 0 old (omega arith))
 
-  -- and the k-mers have room behind them
-  pub kmers-fit : (n : ℕ) {at : ℕ} {ks old room : List ℕ} → 664 ≤ length old → ks ≡ first_kmers → length ks ≤ 16 → Laid (settings (asked_of k m key w) n) at old room
-      → KmersFit 0 k ks (length (take (length room - at) (drop at room)))
-  kmers-fit n {at} {ks} {old} {room} h q most l =
-      record {
-        some = a.order.k_some;
-        few = a.order.k_few;
-        most = omega arith;
-        small = λ i j. subst (λ (l : List ℕ). get_or l i 0 < 4 ^ k) (sym q) (page-small (keyed (word m key)) k (word m w) 0 16 i (subst (λ (l : List ℕ). i < length l) q j));
-        fits = rw (laid-left l) (omega (arith, l.long, settings-most n));
-      }
+        -- which are the first k-mers
+        page-first : take w room ≡ first_kmers
+        page-first =
+            ap handed wrote ∙ page-handed shelf 0 old (omega arith) ∙ ap (λ (n : ℕ). map val (page (keyed (word l.m l.key)) l.k (word l.m l.word) 0 n)) long
+
+        -- these can be written
+        pub are-kmers : length (take w room) ≤ 16 → AreKmers l.k (take w room)
+        are-kmers h =
+            record {
+              few = h;
+              each = λ i j. record {
+                some = shelf.order.k_some;
+                few = shelf.order.k_few;
+                small = subst (λ (ks : List ℕ). get_or ks i 0 < 4 ^ l.k) (sym page-first)
+                    (page-small (keyed (word l.m l.key)) l.k (word l.m l.word) 0 16 i (subst (λ (ks : List ℕ). i < length ks) page-first j));
+              };
+            }
+
+        -- the settings and the lines of these k-mers are the text
+        pub card-shown : {text : List ℕ} → text ≡ settings (asked_of l) n ++ entries 0 (map (word l.k) (take w room)) → IsShown s text
+        card-shown {text} e =
+            let f = keyed (word l.m l.key) in
+            let v = word l.m l.word in
+            let none : refusal (card_grounds s) ≡ 0 = line-told ∙ sym size-none in
+            let count : n ≡ size f l.k v = ap (λ (o : Counted). o.count) sized ∙ size-count l.k l.m l.key l.word (sym size-none) in
+            let lines : map (word l.k) (take w room) ≡ page f l.k v 0 16 = ap (map (word l.k)) page-first ∙ page-words f l.k v 0 16 in
+            record {
+              accepted = none;
+              text_is = e ∙ ap₂ (λ (c : ℕ) (p : List (List ℕ)). settings (asked_of l) c ++ entries 0 p) count lines
+                  ∙ sym (shown-text (refusal (card_grounds s)) none f (asked_of l))
+                  ∙ ap (λ (a : Asked). card_text (refusal (card_grounds s)) (keyed (word a.m a.key)) a) line-formed.1;
+            }
 
 -- ---- the whole card
 
--- what is told and the room are the card's outcome
-pub card-is : (s : List ℕ) {t : Told} {room : List ℕ} → Answers s t (replicate 664 0) room
-    → ◌≡◌ {A = Printed} (record { refusal = t.refusal; length = t.length; text = room }) (card_outcome s)
+-- a refusal and a text that are those of the input are its card
+pub card-is : (s : List ℕ) {bytes : List ℕ} {r n : ℕ} → r ≡ refusal (card_grounds s) → take n bytes ≡ text_for s → IsText n bytes → length bytes ≡ 664
+    → ◌≡◌ {A = Printed} (record { refusal = r; length = n; text = bytes }) (card_outcome s)
 unfolding card_outcome
-card-is s {t} {room} a = rw (a.refusal, a.laid.long, a.laid.front)
+card-is s {bytes} {r} {n} e q t long =
+    let whole = text-whole t long in
+    let told : n ≡ length (text_for s) = whole.0 ∙ ap length q in
+    let front : bytes ≡ over (text_for s) (replicate 664 0) = whole.1 ∙ ap (λ (l : List ℕ). over l (replicate 664 0)) q in
+    cc

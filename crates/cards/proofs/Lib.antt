@@ -1,8 +1,10 @@
 -- Laws that several proofs cite.
 --
--- Laying        texts that are written one after the other, and decimal digits
+-- Digits        decimal digits
+-- Laying        texts that are written one after the other
 -- Answering     the answer to an input, from its line, the size and the first page
 -- Determined    the contracts take every input and determine the outcomes
+pub mod Digits
 pub mod Laying
 pub mod Answering
 pub mod Determined

@@ -1,29 +1,16 @@
--- What the functions of `cards` answer.
+-- The card as the outcome that `definitions` speaks of.
 -- Assumes nothing.
-use Rattle.std.specs.Prelude.{ℕ, List, ◌≡◌}
-use Rattle.definitions.specs.Refusals.{refusal}
+use Rattle.std.specs.Prelude.{ℕ, Option, Some, None}
 use Rattle.definitions.specs.Cards as cards
-use Rattle.cards.specs.Texts.{Laid}
-use Rattle.cards.specs.declared.Told as declared-told
+use Rattle.refusals.specs.Numbers.{number_of}
+use Rattle.refusals.specs.declared.Refusal.{Refusal}
 use Rattle.cards.specs.declared.Printed as declared-printed
+
+-- the number of the refusal that stands beside the text; 0 where none does
+abbrev pub refusal_beside : Option Refusal → ℕ
+refusal_beside None = 0
+refusal_beside (Some r) = number_of r
 
 -- what the card answered
 abbrev pub printed : declared-printed.Printed → cards.Printed
-printed r = record { refusal = r.refusal; length = r.length; text = r.text }
-
--- what a line asks for
-abbrev pub asked_of : ℕ → ℕ → ℕ → ℕ → cards.Asked
-asked_of k m key w = record { k = k; m = m; key = key; word = w }
-
--- what writing an answer tells
-abbrev pub Told : Type 0
-Told = declared-told.Told
-
--- a refusal was told and a text written
-pub record Wrote (n : ℕ) (t : List ℕ) (r : Told) (old room : List ℕ) : Type 0 where
-  pub refusal : r.refusal ≡ n
-  pub laid : Laid t r.length old room
-
--- the answer to an input was written
-abbrev pub Answers : List ℕ → Told → List ℕ → List ℕ → Type 0
-Answers s = Wrote (refusal (cards.card_grounds s)) (cards.text_for s)
+printed r = record { refusal = refusal_beside r.refusal; length = r.length; text = r.text }

@@ -1,6 +1,6 @@
 -- What the contracts of `cards` speak of, beside `definitions` and `laws`.
 --
--- Texts         what is laid at the front of a room; what the parts of a text need
--- Answers       the card as the outcome that `definitions` speaks of; what writing the answer gives
+-- Texts         a text among its bytes; what writing its parts asks; when a text is that of an input, or of a refusal
+-- Answers       the card as the outcome that `definitions` speaks of
 pub mod Texts
 pub mod Answers

@@ -1,183 +1,179 @@
 // The shelf printer's whole answer, from the bytes that were read: the card of a shelf. Assumes nothing.
 #![tactic(auto)]
 
-ghost use Rattle.std.specs.Prelude.{◌≡◌, cond, [], ◌∷◌, ◌++◌, map, ◌≤◌, ◌<◌, ◌+◌, eqb, length};
+ghost use Rattle.std.specs.Prelude.{◌≡◌, ℕ, List, [], ◌∷◌, ◌++◌, map, ◌≤◌, ◌<◌, ◌+◌, ◌*◌, length, take, MatchResult};
 ghost use Rattle.definitions.specs.Words.{word as word_of, text as written};
-ghost use Rattle.definitions.specs.Cards.{ascii, decimal as decimal_text, entries, settings, card_outcome};
-ghost use Rattle.cards.specs.Texts.{Laid, LaidDecimal, WordFits, SettingsFit, KmersFit, key_part_text, word_part_text};
-ghost use Rattle.cards.specs.Answers.{printed, asked_of, Wrote, Answers};
+ghost use Rattle.definitions.specs.Cards.{decimal as decimal_text, entries, settings, card_outcome};
+ghost use Rattle.refusals.specs.Numbers.{number_of};
+ghost use Rattle.lines.specs.Answers.{asked_of};
+ghost use Rattle.cards.specs.Texts.{IsText, IsWord, IsAsked, AreKmers, refused_text, IsShown, IsRefused};
+ghost use Rattle.cards.specs.Answers.{printed};
 
-// ---- the text that is written, part by part, each at the front of the room that is left
+use lines::Line;
+use refusals::Refusal;
+use std::marker::Model;
 
-// Writes some bytes.
-fn lay(bytes: &[u8], room: &mut [u8]) -> usize
-    requires { length bytes.now ≤ length room.old }
-    ensures { Laid bytes.now result room.old room.new }
-{
-    let mut i = 0;
-    while i < bytes.len() {
-        room[i] = bytes[i];
-        i += 1;
+// ---- the text that is written, part by part
+
+// A text of at most 664 bytes, at the front of as many, with zeros behind it.
+// By hand: a `String` allocates, and a library crate has no heap.
+#[derive(Drop)]
+struct Text {
+    bytes: [u8; 664],
+    length: usize,
+}
+
+impl Model for Text {
+    ghost Value = { List ℕ };
+
+    ghost view = { λ t. take t.length t.bytes };
+
+    ghost invariant = { λ t. IsText t.length t.bytes };
+}
+
+impl Text {
+    // No text yet.
+    fn new() -> Self
+        ensures { result ≡ [] }
+    {
+        Text {
+            bytes: [0; 664],
+            length: 0,
+        }
     }
-    i
-}
 
-// Writes a number in decimal: its tenth part, if it has one, and the last digit.
-fn decimal(number: u64, room: &mut [u8]) -> usize
-    requires { 20 ≤ length room.old }
-    ensures { LaidDecimal number result room.old room.new }
-{
-    if number < 10 {
-        room[0] = b'0' + number as u8;
-        return 1;
+    // Writes some bytes.
+    fn lay(&mut self, bytes: &[u8])
+        requires { length self.old + length bytes.now ≤ 664 }
+        ensures text { self.new ≡ self.old ++ bytes.now }
+        ensures grows { length self.new ≡ length self.old + length bytes.now }
+    {
+        let end = self.length + bytes.len();
+        self.bytes[self.length..end].copy_from_slice(bytes);
+        self.length = end;
     }
-    let at = decimal(number / 10, room);
-    room[at] = b'0' + (number % 10) as u8;
-    at + 1
-}
 
-// Writes a label and a number.
-fn numbered(label: &[u8], number: u64, room: &mut [u8]) -> usize
-    requires { length label.now + 20 ≤ length room.old }
-    ensures { Laid (label.now ++ decimal_text number) result room.old room.new }
-{
-    let at = lay(label, room);
-    at + decimal(number, &mut room[at..])
-}
-
-// Writes a label and the letters of a word.
-fn lettered(label: &[u8], n: u64, word: u64, room: &mut [u8]) -> usize
-    requires { WordFits (length label.now + n) n word (length room.old) }
-    ensures { Laid (label.now ++ written (word_of n word)) result room.old room.new }
-{
-    let at = lay(label, room);
-    let letters = words::unpack(word, n, &mut room[at..]);
-    at + letters.written as usize
-}
-
-// Writes the line of a k-mer: its place and its letters.
-fn entry(place: u64, k: u64, kmer: u64, room: &mut [u8]) -> usize
-    requires { (place < 16) × WordFits 35 k kmer (length room.old) }
-    ensures { Laid (entries place (word_of k kmer ∷ [])) result room.old room.new }
-{
-    let mut at = decimal(place, room);
-    at += lettered(b" ", k, kmer, &mut room[at..]);
-    at + lay(b"\n", &mut room[at..])
-}
-
-// Writes a line for each of some k-mers, the first of which has place `from`.
-fn list(from: u64, k: u64, kmers: &[u64], room: &mut [u8]) -> usize
-    requires { KmersFit from k kmers.now (length room.old) }
-    ensures { Laid (entries from (map (word_of k) kmers.now)) result room.old room.new }
-{
-    let mut at = 0;
-    let mut i = 0;
-    while i < kmers.len() {
-        at += entry(from + i as u64, k, kmers[i], &mut room[at..]);
-        i += 1;
+    // Writes a number in decimal: its tenth part, if it has one, and the last digit.
+    // By hand: what `write!` ensures holds only where it answers Ok, which no clause of the kit promises, and a card always has its text.
+    fn decimal(&mut self, number: u64)
+        requires { length self.old + 20 ≤ 664 }
+        ensures text { self.new ≡ self.old ++ decimal_text number }
+        ensures grows { length self.new ≤ length self.old + 20 }
+        ensures grows_short { number < 100 → length self.new ≤ length self.old + 2 }
+    {
+        if 10 <= number {
+            self.decimal(number / 10);
+        }
+        self.lay(&[b'0' + (number % 10) as u8]);
     }
-    at
-}
 
-// Writes k and the key.
-fn key_part(k: u64, m: u64, key: u64, room: &mut [u8]) -> usize
-    requires { (k ≤ 31) × WordFits 40 m key (length room.old) }
-    ensures { Laid (key_part_text k m key) result room.old room.new }
-{
-    let at = numbered(b"k=", k, room);
-    at + lettered(b" key=", m, key, &mut room[at..])
-}
+    // Writes the letters of a word.
+    fn letters(&mut self, n: u64, word: u64)
+        requires is_word { IsWord n word }
+        requires room { length self.old + n ≤ 664 }
+        ensures text { self.new ≡ self.old ++ written (word_of n word) }
+        ensures grows { length self.new ≡ length self.old + n }
+    {
+        let mut letters = [0; 31];
+        words::unpack(word, n, &mut letters).unwrap();
+        self.lay(&letters[..n as usize]);
+    }
 
-// Writes the word and the size, and ends the line.
-fn word_part(m: u64, word: u64, size: u64, room: &mut [u8]) -> usize
-    requires { WordFits 64 m word (length room.old) }
-    ensures { Laid (word_part_text m word size) result room.old room.new }
-{
-    let mut at = lettered(b" word=", m, word, room);
-    at += numbered(b" size=", size, &mut room[at..]);
-    at += lay(b"\n", &mut room[at..]);
-    at
-}
+    // Writes the line of the settings and the size.
+    fn head(&mut self, line: &Line, size: u64)
+        requires is_asked { IsAsked (asked_of line.now) }
+        requires room { length self.old + 104 ≤ 664 }
+        ensures text { self.new ≡ self.old ++ settings (asked_of line.now) size }
+        ensures grows { length self.new ≤ length self.old + 104 }
+    {
+        self.lay(b"k=");
+        self.decimal(line.k);
+        self.lay(b" key=");
+        self.letters(line.m, line.key);
+        self.lay(b" word=");
+        self.letters(line.m, line.word);
+        self.lay(b" size=");
+        self.decimal(size);
+        self.lay(b"\n");
+    }
 
-// Writes the line of the settings and the size.
-fn head(k: u64, m: u64, key: u64, word: u64, size: u64, room: &mut [u8]) -> usize
-    requires { SettingsFit k m key word (length room.old) }
-    ensures { Laid (settings (asked_of k m key word) size) result room.old room.new }
-{
-    let at = key_part(k, m, key, room);
-    at + word_part(m, word, size, &mut room[at..])
+    // Writes the line of a k-mer: its place and its letters.
+    fn entry(&mut self, place: usize, k: u64, kmer: u64)
+        requires is_word { IsWord k kmer }
+        requires place { place < 16 }
+        requires room { length self.old + 35 ≤ 664 }
+        ensures text { self.new ≡ self.old ++ entries place (word_of k kmer ∷ []) }
+        ensures grows { length self.new ≤ length self.old + 35 }
+    {
+        self.decimal(place as u64);
+        self.lay(b" ");
+        self.letters(k, kmer);
+        self.lay(b"\n");
+    }
+
+    // Writes a line for each of some k-mers.
+    fn list(&mut self, k: u64, kmers: &[u64])
+        requires are_kmers { AreKmers k kmers.now }
+        requires room { length self.old + 35 * length kmers.now ≤ 664 }
+        ensures { self.new ≡ self.old ++ entries 0 (map (word_of k) kmers.now) }
+    {
+        for (place, kmer) in kmers.iter().enumerate() {
+            self.entry(place, k, *kmer);
+        }
+    }
 }
 
 // ---- the answer
 
-// What was written: the refusal, and the length of the text.
-#[derive(Clone, Copy)]
-struct Told {
-    refusal: u64,
-    length: usize,
+// The text of a shelf's card: the settings and the size, then place and k-mer for the first 16, or for all if there are fewer. Refusals 10, then
+// 1 to 4.
+fn shown(input: &[u8]) -> Result<Text, Refusal>
+    ensures { MatchResult result (IsShown input.now) (IsRefused input.now) }
+{
+    let line = lines::read(input)?;
+    let size = sizes::size(line.k, line.m, line.key, line.word)?;
+    let mut kmers = [0; 16];
+    let n = shelves::page(line.k, line.m, line.key, line.word, 0, &mut kmers)?;
+    let mut text = Text::new();
+    text.head(&line, size);
+    text.list(line.k, &kmers[..n as usize]);
+    Ok(text)
 }
 
-// Writes the line of a refusal.
-fn refused(refusal: u64, room: &mut [u8]) -> Told
-    requires { 29 ≤ length room.old }
-    ensures { Wrote refusal (ascii "refused " ++ decimal_text refusal ++ ascii "\n") result room.old room.new }
+// The text of a refusal.
+fn refused(refusal: Refusal) -> Text
+    ensures { result ≡ refused_text (number_of refusal) }
 {
-    let at = numbered(b"refused ", refusal, room);
-    let end = lay(b"\n", &mut room[at..]);
-    Told {
-        refusal: refusal,
-        length: at + end,
-    }
-}
-
-// The first of two refusals that is one; 0 where neither is.
-fn first(one: u64, other: u64) -> u64
-    ensures { result ≡ cond (eqb one 0) other one }
-{
-    if one == 0 { other } else { one }
-}
-
-// Writes the answer to an input. Refusals 10, then 1 to 4.
-fn answer(input: &[u8], room: &mut [u8]) -> Told
-    requires { 664 ≤ length room.old }
-    ensures { Answers input.now result room.old room.new }
-{
-    let line = lines::read(input);
-    let size = sizes::size(line.k, line.m, line.key, line.word);
-    let refusal = first(line.refusal, size.refusal);
-    if refusal != 0 {
-        return refused(refusal, room);
-    }
-    let mut kmers: [u64; 16] = [0; 16];
-    let page = shelves::page(line.k, line.m, line.key, line.word, 0, &mut kmers);
-    let n = page.written as usize;
-    let at = head(line.k, line.m, line.key, line.word, size.count, room);
-    let shown = list(0, line.k, &kmers[..n], &mut room[at..]);
-    Told {
-        refusal: 0,
-        length: at + shown,
-    }
+    let mut text = Text::new();
+    text.lay(b"refused ");
+    text.decimal(refusal.number());
+    text.lay(b"\n");
+    text
 }
 
 // What the printer prints: the refusal, the length of the text, and the text, with zeros behind it.
+// By hand: the text and its length are fixed memory, since a library crate has no heap.
 #[derive(Clone, Copy)]
 pub struct Printed {
-    pub refusal: u64,
+    pub refusal: Option<Refusal>,
     pub length: usize,
     pub text: [u8; 664],
 }
 
-// The card of a shelf, from the input that names it: the settings and the size, then place and k-mer for the first 16, or for all if there are
-// fewer; or the line of a refusal. Refusals 10, then 1 to 4. That the text is a part of the array is told besides, for whoever cuts it out.
+// The card of a shelf, from the input that names it: its text, or the line of a refusal. Refusals 10, then 1 to 4. That the text is a part of the
+// array is told besides, for whoever cuts it out.
 pub fn card(input: &[u8]) -> Printed
     ensures outcome { printed result ≡ card_outcome input.now }
     ensures inside { result.length ≤ length result.text }
 {
-    let mut text: [u8; 664] = [0; 664];
-    let answer = answer(input, &mut text);
+    let (refusal, text) = match shown(input) {
+        Ok(text) => (None, text),
+        Err(refusal) => (Some(refusal), refused(refusal)),
+    };
+    let Text { bytes, length } = text;
     Printed {
-        refusal: answer.refusal,
-        length: answer.length,
-        text: text,
+        refusal,
+        length,
+        text: bytes,
     }
 }
