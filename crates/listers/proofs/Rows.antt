@@ -70,6 +70,10 @@ module _ {k m key w each size : ℕ} {old : List ℕ} (q : ListReady k m key w e
       answered : ◌≡◌ {A = Paged} record { refusal = refusal; written = written; room = after } record { refusal = 0; written = length new; room = over new part }
       answered = p ∙ page-outcome q.accepted at part (omega (arith, q.sized))
 
+      -- it is not refused
+      pub taking-served : refusal ≡ 0
+      taking-served = ap (λ (o : Paged). o.refusal) answered
+
       -- what it wrote is what stands on the shelf from its start on
       new_is : new ≡ take (length part) (drop at numbers)
       new_is =

@@ -1,6 +1,6 @@
 -- The outcome of listing a whole shelf by pages, and what the code answered as such.
 -- Assumes nothing.
-use Rattle.std.specs.Prelude.{ℕ, zero, suc, ◌≤◌, min, List, [], ◌∷◌, ◌++◌, map, ◌≡◌, refl, length, replicate}
+use Rattle.std.specs.Prelude.{ℕ, zero, suc, ◌≤◌, min, List, [], ◌∷◌, ◌++◌, map, Result, Ok, Err, ◌≡◌, refl, length, replicate}
 use Rattle.definitions.specs.Lists.{over}
 use Rattle.definitions.specs.Words.{Word, val, word as word_of}
 use Rattle.definitions.specs.Vigemins.{Form, keyed}
@@ -8,7 +8,8 @@ use Rattle.definitions.specs.Shelves.{shelf, size}
 use Rattle.definitions.specs.Refusals.{Ground, refusal, bad_room}
 use Rattle.definitions.specs.Outcomes.{shelf_grounds}
 use Rattle.laws.specs.Accepted.{ShelfAccepted}
-use Rattle.listers.specs.declared.Listed as answer
+use Rattle.refusals.specs.declared.Refusal.{Refusal}
+use Rattle.refusals.specs.Numbers.{number_of, refusal_in}
 
 -- what listing answers: the refusal, how many k-mers it wrote at the front of the room; and the room
 pub record Listed : Type 0 where
@@ -44,8 +45,19 @@ unfolding list_outcome list_answer
 list_cases = (refl, refl, refl, refl)
 
 -- what listing answered, and its room
-abbrev pub listed : answer.Listed → List ℕ → Listed
-listed r room = record { refusal = r.refusal; written = r.written; room = room }
+abbrev pub listed : Result ℕ Refusal → List ℕ → Listed
+listed (Ok n) room = record { refusal = 0; written = n; room = room }
+listed (Err r) room = record { refusal = number_of r; written = 0; room = room }
+
+-- the outcome has the number of the refusal
+pub listed-refusal : (r : Result ℕ Refusal) (room : List ℕ) → (listed r room).refusal ≡ refusal_in r
+listed-refusal (Ok n) room = refl
+listed-refusal (Err r) room = refl
+
+-- and the room
+pub listed-room : (r : Result ℕ Refusal) (room : List ℕ) → (listed r room).room ≡ room
+listed-room (Ok n) room = refl
+listed-room (Err r) room = refl
 
 -- what taking the pages asks: the shelf is one that is accepted, its size is known, the room takes it, and a page takes at least one
 pub record ListReady (k m key w each size : ℕ) (room : List ℕ) : Type 0 where
