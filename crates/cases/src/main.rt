@@ -6,18 +6,23 @@
 mod columns;
 mod operations;
 mod printed;
-mod rooms;
 mod tables;
 mod tally;
 
 use std::io;
 
 fn main(rt: HostRuntime) -> io::Result<()> {
-    tables::run(&rt, "printer-malformed")?;
-    tables::run(&rt, "printer-well-formed")?;
-    tables::run(&rt, "printer-m-equal-to-k")?;
-    tables::run(&rt, "W1-to-W12")?;
-    tables::run(&rt, "also-run")?;
-    tables::run(&rt, "refusals")?;
-    tables::run(&rt, "m-equal-to-k")
+    let blocks = [
+        "printer-malformed",
+        "printer-well-formed",
+        "printer-m-equal-to-k",
+        "W1-to-W12",
+        "also-run",
+        "refusals",
+        "m-equal-to-k",
+    ];
+    for block in blocks {
+        tables::run(&rt, block)?;
+    }
+    Ok(())
 }

@@ -1,115 +1,151 @@
 // A case of each operation: whether what is asked comes out as it must. Room is lent full of nines, so that what is written is seen, and what must
 // stay as it was.
-use crate::columns::{Case, Numbers, entry};
-use crate::rooms;
+use crate::columns::Case;
+use refusals::Refusal;
+use std::iter;
 
-// Packing: the refusal, the place of a bad letter, the word.
-pub fn pack(text: &[u8], c: Case) -> bool {
-    let got = words::pack(text);
-    (got.refusal == c.refusal) & (got.place == c.first) & (got.word == c.second)
+// Whether the case of an operation holds. No other operation does.
+pub fn holds(operation: &[u8], case: &Case<'_>) -> bool {
+    match operation {
+        b"pack" => pack(case.text, case),
+        // thirty letters and a line feed, which no line of a table has
+        b"pack-line-feed" => pack(b"TTTTTTTTTTTTTTTTTTTTTTTTTTTTTT\n", case),
+        b"unpack" => unpack(case),
+        b"vigemin" => vigemin(case),
+        b"scan" => scan(case),
+        b"long-scan" => long_scan(case),
+        b"size" => size(case),
+        b"sum-of-sizes" => sum_of_sizes(case),
+        b"page" => page(case),
+        b"plain-counter" => antemers(case),
+        b"worksheet" => worksheet(case),
+        b"foreign-size" => foreign_size(case),
+        b"foreign-scan" => foreign_scan(case),
+        _ => false,
+    }
 }
 
-// Packing thirty letters and a line feed, which no line of a table has.
-pub fn pack_line_feed(c: Case) -> bool {
-    pack(b"TTTTTTTTTTTTTTTTTTTTTTTTTTTTTT\n", c)
+// Whether a room has these numbers, from the first on.
+fn room_has<T, I>(room: &[T], numbers: I) -> bool
+where
+    T: Copy + Into<u64>,
+    I: Iterator<Item = u64> + Drop,
+    requires { I.can_next numbers }
+{
+    room.iter()
+        .zip(numbers)
+        .all(|(entry, number)| (*entry).into() == number)
 }
 
-// Whether a room has these bytes.
-fn text_is(room: [u8; 8], text: &[u8]) -> bool {
-    &room[..] == text
+// What an operation answered, as the columns have it: the refusal and the number, zeros for what there is not.
+fn told(answered: Result<u64, Refusal>) -> (u64, u64) {
+    match answered {
+        Ok(number) => (0, number),
+        Err(refusal) => (refusal.number(), 0),
+    }
 }
 
-// Unpacking the word as one of k letters: the refusal, how many letters are written, and the room of eight after.
-pub fn unpack(after: &[u8], c: Case) -> bool {
+// The same, where the place of a bad letter comes before the number.
+fn told_with_place(answered: Result<u64, Refusal>) -> (u64, u64, u64) {
+    let place = answered.map_or_else(Refusal::place, |_| 0);
+    let (refusal, number) = told(answered);
+    (refusal, place, number)
+}
+
+// Packing a text: the refusal, the place of a bad letter, the word.
+fn pack(text: &[u8], case: &Case<'_>) -> bool {
+    told_with_place(words::pack(text)) == (case.refusal, case.first, case.second)
+}
+
+// Unpacking the word as one of k letters: the refusal, how many letters are written, and the room of eight after, which is the text.
+fn unpack(case: &Case<'_>) -> bool {
     let mut lent = [b'9'; 8];
-    let room = powers::lesser(c.room, 8) as usize;
-    let got = words::unpack(c.word, c.k, &mut lent[..room]);
-    (got.refusal == c.refusal) & (got.written == c.first) & text_is(lent, after)
+    let takes = case.room.min(8) as usize;
+    let got = words::unpack(case.word, case.k, &mut lent[..takes]);
+    (told(got) == (case.refusal, case.first)) & (&lent[..] == case.text)
 }
 
 // The vigemin of the k-mer: the refusal, the vigemin, its position.
-pub fn vigemin(c: Case) -> bool {
-    let got = vigemins::vigemin(c.k, c.m, c.key, c.word);
-    (got.refusal == c.refusal) & (got.word == c.first) & (got.position == c.second)
+fn vigemin(case: &Case<'_>) -> bool {
+    let got = vigemins::vigemin(case.k, case.m, case.key, case.word);
+    let position = got.map_or(0, |found| found.position);
+    let (refusal, word) = told(got.map(|found| found.word));
+    (refusal, word, position) == (case.refusal, case.first, case.second)
 }
 
 // The size: the refusal, the number of k-mers.
-pub fn size(c: Case) -> bool {
-    let got = sizes::size(c.k, c.m, c.key, c.word);
-    (got.refusal == c.refusal) & (got.count == c.first)
+fn size(case: &Case<'_>) -> bool {
+    let got = sizes::size(case.k, case.m, case.key, case.word);
+    told(got) == (case.refusal, case.first)
 }
 
 // The sum of the sizes of the words below this one.
-pub fn sum_of_sizes(c: Case) -> bool {
-    let mut sum: u64 = 0;
-    let mut word = 0;
-    while word < c.word {
-        let got = sizes::size(c.k, c.m, c.key, word);
-        sum = std::num::wrapping_add_u64(sum, got.count);
-        word += 1;
-    }
-    sum == c.first
+fn sum_of_sizes(case: &Case<'_>) -> bool {
+    let sum = (0..case.word)
+        .filter_map(|word| sizes::size(case.k, case.m, case.key, word).ok())
+        .fold(0u64, |sum, size| sum.wrapping_add(size));
+    sum == case.first
 }
 
 // The plain counter: the refusal, the number of antemers.
-pub fn antemers(c: Case) -> bool {
-    let got = counters::antemers(c.k, c.m, c.key, c.word);
-    (got.refusal == c.refusal) & (got.count == c.first)
+fn antemers(case: &Case<'_>) -> bool {
+    let got = counters::antemers(case.k, case.m, case.key, case.word);
+    told(got) == (case.refusal, case.first)
 }
 
 // The worksheet: the refusal, and rows 0 and 1 of the antemers and of the postmers; all other rows hold 0 twice.
-pub fn worksheet(c: Case, numbers: &Numbers) -> bool {
-    let got = worksheets::worksheet(c.k, c.m, c.key, c.word);
-    let sheet = got.sheet;
-    let ante = sheet.antemers;
-    let post = sheet.postmers;
-    let rows = rooms::rows_are(&post, entry(numbers, 0), entry(numbers, 1));
-    (got.refusal == c.refusal) & rooms::rows_are(&ante, c.first, c.second) & rows
+fn worksheet(case: &Case<'_>) -> bool {
+    let got = worksheets::worksheet(case.k, case.m, case.key, case.word);
+    let (refusal, antemers, postmers) = match got {
+        Ok(sheet) => (0, sheet.antemers, sheet.postmers),
+        Err(refusal) => (refusal.number(), [0; 31], [0; 31]),
+    };
+    let ante = [case.first, case.second].into_iter().chain(iter::repeat(0));
+    let post = case.after.into_iter().take(2).chain(iter::repeat(0));
+    (refusal == case.refusal) & room_has(&antemers, ante) & room_has(&postmers, post)
 }
 
 // A page: the refusal, how many k-mers are written, and the room of five after.
-pub fn page(c: Case, numbers: &Numbers) -> bool {
-    let mut lent: [u64; 5] = [9; 5];
-    let room = powers::lesser(c.room, 5) as usize;
-    let got = shelves::page(c.k, c.m, c.key, c.word, c.start, &mut lent[..room]);
-    let answered = (got.refusal == c.refusal) & (got.written == c.first);
-    answered & rooms::kmers_are(&lent, numbers)
+fn page(case: &Case<'_>) -> bool {
+    let mut lent = [9u64; 5];
+    let takes = case.room.min(5) as usize;
+    let room = &mut lent[..takes];
+    let got = shelves::page(case.k, case.m, case.key, case.word, case.start, room);
+    (told(got) == (case.refusal, case.first)) & room_has(&lent, case.after.into_iter())
 }
 
-// A scan: the refusal, the place of a bad letter, the number of windows, and the room of six after.
-pub fn scan(seq: &[u8], c: Case, numbers: &Numbers) -> bool {
-    let mut lent: [u32; 6] = [9; 6];
-    let room = powers::lesser(c.room, 6) as usize;
-    let got = scans::scan(c.k, c.m, c.key, seq, &mut lent[..room]);
-    let refused = (got.refusal == c.refusal) & (got.place == c.first);
-    refused & (got.windows == c.second) & rooms::positions_are(&lent, numbers)
+// A scan: the refusal, the place of a bad letter, the number of windows.
+fn scanned(seq: &[u8], room: &mut [u32], case: &Case<'_>) -> bool {
+    let got = scans::scan(case.k, case.m, case.key, seq, room);
+    told_with_place(got) == (case.refusal, case.first, case.second)
 }
 
-// A scan of one byte over and over, with room for 65,536 windows: the refusal, the place of a bad letter, the number of windows. Of equal m-mers the
+// A scan of the text: what it answers, and the room of six after.
+fn scan(case: &Case<'_>) -> bool {
+    let mut lent = [9; 6];
+    let takes = case.room.min(6) as usize;
+    scanned(case.text, &mut lent[..takes], case) & room_has(&lent, case.after.into_iter())
+}
+
+// A scan of one byte over and over, with room for 65,536 windows: the byte is the word, and the start is how often it stands there. Of equal m-mers the
 // leftmost is the vigemin, so the positions rise from 0.
-fn rising(seq: &[u8], c: Case) -> bool {
-    let mut room: [u32; 65536] = [9; 65536];
-    let got = scans::scan(c.k, c.m, c.key, seq, &mut room);
-    let refused = (got.refusal == c.refusal) & (got.place == c.first);
-    refused & (got.windows == c.second) & rooms::rises(&room, c.second)
-}
-
-// The same, where the word is the byte, and the start is how often it stands there.
-pub fn long_scan(c: Case) -> bool {
-    let seq = [(c.word % 256) as u8; 65537];
-    let letters = powers::lesser(c.start, 65537) as usize;
-    rising(&seq[..letters], c)
+fn long_scan(case: &Case<'_>) -> bool {
+    let letters = case.start.min(65537) as usize;
+    let seq = &[(case.word % 256) as u8; 65537][..letters];
+    let mut room = [9; 65536];
+    scanned(seq, &mut room, case) & room_has(&room, (0..case.second).chain(iter::repeat(9)))
 }
 
 // The foreign size: the one number.
-pub fn foreign_size(c: Case) -> bool {
-    tukinraso::tukinraso_size(c.k, c.m, c.key, c.word) == c.first
+fn foreign_size(case: &Case<'_>) -> bool {
+    tukinraso::tukinraso_size(case.k, case.m, case.key, case.word) == case.first
 }
 
-// The foreign scan: the one number, and the room of eight bytes after.
-pub fn foreign_scan(seq: &[u8], c: Case, numbers: &Numbers) -> bool {
+// The foreign scan of the text: the one number, and the room of eight bytes after.
+fn foreign_scan(case: &Case<'_>) -> bool {
     let mut lent = [b'9'; 8];
-    let room = powers::lesser(c.room, 8) as usize;
-    let got = tukinraso::tukinraso_scan(c.k, c.m, c.key, seq, &mut lent[..room]);
-    (got == c.first) & rooms::bytes_are(&lent, numbers)
+    let takes = case.room.min(8) as usize;
+    let room = &mut lent[..takes];
+    let got = tukinraso::tukinraso_scan(case.k, case.m, case.key, case.text, room);
+    (got == case.first) & room_has(&lent, case.after.into_iter())
 }

@@ -1,37 +1,30 @@
 // How many cases of a block were run, and how many of them held.
-use std::io;
 use std::io::Print;
+use std::{fmt, io};
 
-#[derive(Clone, Copy)]
+#[derive(Clone, Copy, Default)]
 pub struct Tally {
     held: u64,
     run: u64,
 }
 
-// No case so far.
-pub fn none() -> Tally {
-    Tally { held: 0, run: 0 }
-}
-
-// One case more.
-fn count(t: Tally, holds: bool) -> Tally {
-    let run = std::num::wrapping_add_u64(t.run, 1);
-    let held = std::num::wrapping_add_u64(t.held, holds as u64);
-    Tally { held, run }
-}
-
-// One case more. One that does not hold is told: its line is bytes, which need not be text.
-pub fn one(rt: &HostRuntime, t: Tally, case: &[u8], holds: bool) -> io::Result<Tally> {
-    if !holds {
-        rt.print("differs: ")?;
-        rt.write_all(case)?;
-        rt.println("")?;
+impl Tally {
+    // Counts a case. One that does not hold is told: its line is bytes, which need not be text.
+    pub fn count(&mut self, rt: &impl Print, case: &[u8], holds: bool) -> io::Result<()> {
+        if !holds {
+            rt.print("differs: ")?;
+            rt.write_all(case)?;
+            rt.println("")?;
+        }
+        self.run = self.run.wrapping_add(1);
+        self.held = self.held.wrapping_add(u64::from(holds));
+        Ok(())
     }
-    Ok(count(t, holds))
 }
 
-// The line of a block: its name, how many cases held, how many were run.
-pub fn report(rt: &HostRuntime, block: &str, t: Tally) -> io::Result<()> {
-    let Tally { held, run } = t;
-    println!(rt; "{block}: {held} of {run}")
+impl fmt::Display for Tally {
+    fn fmt<W: fmt::Write>(&self, f: &mut fmt::Formatter<W>) -> fmt::Result {
+        let Tally { held, run } = *self;
+        write!(f, "{held} of {run}")
+    }
 }

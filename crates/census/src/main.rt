@@ -3,18 +3,19 @@
 // differs it says what, and stops.
 #![tactic(auto)]
 
-ghost use Rattle.std.specs.Prelude.{◌+◌, ◌<◌, ◌≤◌, length};
+ghost use Rattle.std.specs.Prelude.{◌+◌, ◌<◌, ◌≤◌, length, All};
 
-use std::io;
-use std::num::wrapping_add_u64;
+use refusals::Refusal;
+use std::{fmt, io, iter};
 
 // The greatest k.
 const MOST_LETTERS: u64 = 8;
 
-// An entry for each k-mer, or for each word, of at most 8 letters.
-type Table = [u64; 65536];
+// How many k-mers, or words, of at most 8 letters there are.
+const MOST: usize = 65536;
 
 // 4^n, for n from 1 to 8.
+// By hand: the census counts on its own, by no table of the library; and a shift would ask a bound of n at each call, which the last arm makes needless.
 fn power(n: u64) -> u64
     ensures { (4 ≤ result) × (result ≤ 65536) }
 {
@@ -30,31 +31,35 @@ fn power(n: u64) -> u64
     }
 }
 
-// The settings, but for the word.
+// Something differs, and what it is was told.
 #[derive(Clone, Copy)]
-struct Settings {
-    k: u64,
-    m: u64,
-    key: u64,
+struct Differs;
+
+// ---- drawn numbers
+
+// The state of a linear congruential generator on 64 bits.
+#[derive(Clone, Copy)]
+struct Generator(u64);
+
+impl Generator {
+    // The generator with its next state.
+    fn advanced(self) -> Self {
+        Generator(
+            self.0
+                .wrapping_mul(6364136223846793005)
+                .wrapping_add(1442695040888963407),
+        )
+    }
+
+    // A number below `bound`, of the highest 16 bits of the state.
+    fn drawn(self, bound: u64) -> u64
+        requires { 1 ≤ bound }
+    {
+        (self.0 >> 48) % bound
+    }
 }
 
 // ---- keys and words
-
-// The state after this one, by a linear congruential generator on 64 bits: times 6364136223846793005, plus 1442695040888963407. The product is
-// taken by halves, since what passes 64 bits is dropped.
-fn advance(state: u64) -> u64 {
-    let low = state % 4294967296;
-    let high = state / 4294967296;
-    let cross = low * 1481765933 + high * 1284865837;
-    wrapping_add_u64(low * 1284865837 + 1442695040888963407, cross << 32)
-}
-
-// A number below `bound`, of the highest 16 bits of a state.
-fn drawn(state: u64, bound: u64) -> u64
-    requires { 1 ≤ bound }
-{
-    state / 281474976710656 % bound
-}
 
 // How many keys are tried: all where there are at most 64, else 8.
 fn key_count(words: u64) -> u64
@@ -65,7 +70,7 @@ fn key_count(words: u64) -> u64
 
 // The n-th key that is tried: where not all are, the first, the last, ATAT.., which is a fifth of the words, AT..T, the last that begins with A, and
 // drawn ones.
-fn nth_key(n: u64, words: u64, state: u64) -> u64
+fn nth_key(n: u64, words: u64, generator: Generator) -> u64
     requires { 4 ≤ words }
 {
     if words <= 64 {
@@ -76,408 +81,320 @@ fn nth_key(n: u64, words: u64, state: u64) -> u64
         1 => words - 1,
         2 => words / 5,
         3 => words / 4 - 1,
-        _ => drawn(state, words),
+        _ => generator.drawn(words),
     }
 }
 
-// The n-th of the four words whose shelves are listed: the key, which comes first once keyed; two drawn ones, which begin with C and with G once
-// keyed; and the word that comes last.
-fn nth_word(n: u64, words: u64, key: u64, state: u64) -> u64
-    requires { (4 ≤ words) × (words ≤ 65536) }
-{
-    let quarter = words / 4;
-    match n {
-        0 => key,
-        1 => key ^ quarter ^ drawn(state, quarter),
-        2 => key ^ (2 * quarter) ^ drawn(advance(state), quarter),
-        _ => key ^ (words - 1),
-    }
-}
+// ---- the settings
 
-// ---- what is printed
-
-// Whether an operation refused nothing and answered what was counted, of a k-mer or a word; where not, says what differs.
-fn same(
-    rt: &HostRuntime,
-    what: &str,
-    s: Settings,
-    of: u64,
-    refusal: u64,
-    answered: u64,
-    counted: u64,
-) -> bool {
-    if (refusal == 0) & (answered == counted) {
-        return true;
-    }
-    let Settings { k, m, key } = s;
-    let _told = println!(rt;
-        "{what} differs: k={k} m={m} key={key}, of {of}: refusal {refusal}, answer {answered}, counted {counted}"
-    );
-    false
-}
-
-// Prints what was compared for a k; under each key that is four shelves.
-fn print_line(
-    rt: &HostRuntime,
+// The settings, but for the word.
+#[derive(Clone, Copy)]
+struct Settings {
     k: u64,
-    keys: u64,
-    vigemins: u64,
-    sizes: u64,
-    pages: u64,
-) -> io::Result<()> {
-    let shelves = keys << 2;
-    println!(rt;
-        "k={k}: {keys} keys, {vigemins} vigemins, {sizes} sizes, and {shelves} shelves in {pages} pages agree"
-    )
+    m: u64,
+    key: u64,
+    ghost in_range: { (m ≤ k) × (k ≤ 8) },
 }
 
-// ---- vigemins
+impl fmt::Display for Settings {
+    fn fmt<W: fmt::Write>(&self, f: &mut fmt::Formatter<W>) -> fmt::Result {
+        let Settings { k, m, key } = *self;
+        write!(f, "k={k} m={m} key={key}")
+    }
+}
 
-// A word and its position.
+// A word of at most 8 letters, and its position in a k-mer.
 #[derive(Clone, Copy)]
 struct Mer {
     word: u64,
     position: u64,
+    ghost in_range: { word < 65536 },
 }
 
-// The vigemin of a k-mer, by its definition: each m-mer is cut out, from the left, and kept where its keyed form is less than all before. `behind` is
-// 4 to the number of letters behind the m-mer.
-fn plain_vigemin(s: Settings, kmer: u64) -> Mer
-    ensures { result.word < 65536 }
-{
-    let words = power(s.m);
-    let mut behind = power(s.k) / words;
-    let mut least = u64::MAX;
-    let mut word = 0;
-    let mut position = 0;
-    let mut at = 0;
-    while 0 < behind {
-        let mer = kmer / behind % words;
-        let value = mer ^ s.key;
-        if value < least {
-            least = value;
-            word = mer;
-            position = at;
+impl Settings {
+    // The m-mer of a k-mer at a position.
+    fn mer(self, kmer: u64, position: u64) -> Mer
+        requires { position + self.m ≤ self.k }
+    {
+        let behind = self.k - self.m - position;
+        Mer {
+            word: (kmer >> (2 * behind)) % power(self.m),
+            position,
         }
-        behind /= 4;
-        at += 1;
     }
-    Mer { word, position }
-}
 
-// What no word and no k-mer of at most 8 letters is.
-const NONE: u64 = 65536;
-
-// The word of a k-mer's vigemin; NONE where the operation does not find it.
-fn checked_vigemin(rt: &HostRuntime, s: Settings, kmer: u64) -> u64
-    ensures { result ≤ 65536 }
-{
-    let mer = plain_vigemin(s, kmer);
-    let found = vigemins::vigemin(s.k, s.m, s.key, kmer);
-    let right = same(rt, "vigemin", s, kmer, found.refusal, found.word, mer.word);
-    let placed = same(
-        rt,
-        "position of the vigemin",
-        s,
-        kmer,
-        0,
-        found.position,
-        mer.position,
-    );
-    if right & placed {
-        return mer.word;
-    }
-    NONE
-}
-
-// Finds the vigemin of every k-mer, and tallies them; whether the operation finds the same.
-fn vigemins_agree(rt: &HostRuntime, s: Settings, found: &mut Table, tally: &mut Table) -> bool {
-    let kmers = power(s.k);
-    let mut kmer = 0;
-    while kmer < kmers {
-        let word = checked_vigemin(rt, s, kmer);
-        if word == NONE {
-            return false;
+    // The vigemin of a k-mer, by its definition: each m-mer is cut out, from the left, and kept where its keyed form is less than that of the one kept
+    // before.
+    fn plain_vigemin(self, kmer: u64) -> Mer {
+        let mut least = self.mer(kmer, 0);
+        for position in 1..=self.k - self.m {
+            let mer = self.mer(kmer, position);
+            if mer.word ^ self.key < least.word ^ self.key {
+                least = mer;
+            }
         }
-        found[kmer as usize] = word;
-        tally[word as usize] = wrapping_add_u64(tally[word as usize], 1);
-        kmer += 1;
+        least
     }
-    true
-}
 
-// ---- sizes
-
-// Whether the size of a word is what was counted.
-fn size_agrees(rt: &HostRuntime, s: Settings, word: u64, counted: u64) -> bool {
-    let size = sizes::size(s.k, s.m, s.key, word);
-    same(rt, "size", s, word, size.refusal, size.count, counted)
-}
-
-// Whether the size of every word is its tally, and the sizes add up to 4^k.
-fn sizes_agree(rt: &HostRuntime, s: Settings, tally: &Table) -> bool {
-    let words = power(s.m);
-    let mut sum = 0;
-    let mut word = 0;
-    while word < words {
-        let counted = tally[word as usize];
-        if !size_agrees(rt, s, word, counted) {
-            return false;
-        }
-        sum = wrapping_add_u64(sum, counted);
-        word += 1;
+    // The four words whose shelves are listed: the key, which comes first once keyed; two drawn ones, which begin with C and with G once keyed; and the
+    // word that comes last.
+    fn listed_words(self, generator: Generator) -> [u64; 4] {
+        let words = power(self.m);
+        let quarter = words / 4;
+        [
+            self.key,
+            self.key ^ quarter ^ generator.drawn(quarter),
+            self.key ^ (2 * quarter) ^ generator.advanced().drawn(quarter),
+            self.key ^ (words - 1),
+        ]
     }
-    same(rt, "sum of the sizes", s, words, 0, sum, power(s.k))
 }
 
 // ---- shelves
 
-// 1 where a test holds, else 0.
-fn one_if(holds: bool) -> usize
-    ensures { result ≤ 1 }
+// The k-mers whose vigemin is a word, in increasing order, at the front of a table. Of each k-mer `found` has the word of its vigemin.
+fn list<'a>(word: u64, found: &[u64], shelf: &'a mut [u64; MOST]) -> &'a [u64]
+    requires { length found.now ≤ MOST }
+    ensures { length result.now ≤ MOST }
 {
-    if holds { 1 } else { 0 }
-}
-
-// Writes the k-mers whose vigemin is a word, in increasing order, and answers how many there are. Each k-mer is written at the next place, and the place
-// is passed where the k-mer belongs there.
-fn list(k: u64, word: u64, found: &Table, shelf: &mut Table) -> usize
-    ensures { result ≤ 65536 }
-{
-    let kmers = power(k) as usize;
-    let mut n = 0;
-    let mut kmer = 0;
-    while kmer < kmers {
-        shelf[n] = kmer as u64;
-        n += one_if(found[kmer] == word);
-        kmer += 1;
+    let kmers = found
+        .iter()
+        .enumerate()
+        .filter(|(_, other)| **other == word);
+    for ((kmer, _), entry) in kmers.zip(shelf.iter_mut()) {
+        *entry = kmer as u64;
     }
-    n
+    let size = found.iter().filter(|other| **other == word).count();
+    &shelf[..size]
 }
 
-// Clears a room up to the first place at which it does not have the k-mers that are due, from a place of the shelf on, or NONE behind them. Answers
-// that place; the room's length where there is none.
-fn cleared(room: &mut [u64], start: usize, due: usize, shelf: &Table) -> usize
-    requires { start + due ≤ 65536 }
-{
-    let mut i = 0;
-    while i < room.len() {
-        let right = if i < due { shelf[start + i] } else { NONE };
-        if room[i] != right {
-            return i;
-        }
-        room[i] = NONE;
-        i += 1;
-    }
-    i
-}
-
-// Whether a page from a place of the shelf on writes the k-mers that are due, into a room that has NONE all over, before and after.
-fn page_agrees(
-    rt: &HostRuntime,
-    s: Settings,
-    word: u64,
-    start: usize,
-    due: usize,
-    shelf: &Table,
-    room: &mut [u64],
-) -> bool
-    requires { start + due ≤ 65536 }
-{
-    let paged = shelves::page(s.k, s.m, s.key, word, start as u64, room);
-    let right = cleared(room, start, due, shelf) as u64;
-    let entries = room.len() as u64;
-    same(
-        rt,
-        "number written by a page",
-        s,
-        word,
-        paged.refusal,
-        paged.written,
-        due as u64,
-    ) & same(rt, "right entries of a page", s, word, 0, right, entries)
-}
-
-// The lesser of two numbers.
-fn lesser(a: usize, b: usize) -> usize
-    ensures { (result ≤ a) × (result ≤ b) }
-{
-    if a < b { a } else { b }
-}
-
-// Goes through a shelf by pages, each from where the last one stopped, until none is left and a page writes none. The room takes at least one k-mer,
-// unless the shelf has none. Answers the number of pages; 0 where one differs.
-fn pages_of(
-    rt: &HostRuntime,
-    s: Settings,
-    word: u64,
-    size: usize,
-    shelf: &Table,
-    room: &mut [u64],
-) -> u64
-    requires { size ≤ 65536 }
-{
-    let mut start = 0;
-    let mut pages = 0;
-    loop {
-        let due = lesser(room.len(), size - start);
-        if !page_agrees(rt, s, word, start, due, shelf, room) {
-            return 0;
-        }
-        pages += 1;
-        if due == 0 {
-            return pages;
-        }
-        start += due;
-    }
-}
-
-// The n-th room: one, two and seven 64th parts of a shelf and more, which is 1, 2 and 7 where it has fewer than 64 k-mers; and the whole.
-fn nth_room(n: u64, size: usize) -> usize
-    requires { size ≤ 65536 }
-    ensures { result ≤ 65536 }
+// How many k-mers the rooms take that a shelf is gone through with: one, two and seven 64th parts of it and more, which is 1, 2 and 7 where it has fewer
+// than 64 k-mers; and the whole.
+fn rooms(size: usize) -> [usize; 4]
+    requires { size ≤ MOST }
+    ensures { All (λ takes. takes ≤ MOST) result }
 {
     let part = size / 64 + 1;
-    match n {
-        0 => part,
-        1 => 2 * part,
-        2 => 7 * part,
-        _ => size,
-    }
+    [part, 2 * part, 7 * part, size]
 }
 
-// Goes through a shelf of `size` k-mers with each room. Answers the number of pages; 0 where one differs.
-fn shelf_pages(
-    rt: &HostRuntime,
-    s: Settings,
-    word: u64,
-    size: usize,
-    shelf: &Table,
-    room: &mut [u64],
-) -> u64
-    requires { (size ≤ 65536) × (65536 ≤ length room.old) }
-{
-    let mut pages = 0;
-    let mut n = 0;
-    while n < 4 {
-        let each = nth_room(n, size);
-        let more = pages_of(rt, s, word, size, shelf, &mut room[0..each]);
-        if more == 0 {
-            return 0;
+// What no word and no k-mer of at most 8 letters is.
+// By hand: `shelves::page` writes into a room of numbers, so that an entry was left alone shows by a number only.
+const BLANK: u64 = 65536;
+
+// ---- what is compared under one key
+
+// The settings, and the runtime that what differs is told to.
+#[derive(Drop)]
+struct Comparison<'a, R> {
+    rt: &'a R,
+    settings: Settings,
+}
+
+impl<R: Print> Comparison<'_, R> {
+    // Compares what an operation answered, of a k-mer or a word, with what was counted: it must have refused nothing.
+    fn same(
+        &self,
+        what: &str,
+        of: u64,
+        answered: Result<u64, Refusal>,
+        counted: u64,
+    ) -> Result<(), Differs> {
+        if answered == Ok(counted) {
+            return Ok(());
         }
-        pages = wrapping_add_u64(pages, more);
-        n += 1;
+        let (refusal, answer) = match answered {
+            Ok(answer) => (0, answer),
+            Err(refusal) => (refusal.number(), 0),
+        };
+        let settings = self.settings;
+        let _told = println!(self.rt;
+            "{what} differs: {settings}, of {of}: refusal {refusal}, answer {answer}, counted {counted}"
+        );
+        Err(Differs)
     }
-    pages
-}
 
-// Goes through the shelf of a word, by pages. Answers the number of pages; 0 where one differs.
-fn word_pages(
-    rt: &HostRuntime,
-    s: Settings,
-    word: u64,
-    found: &Table,
-    shelf: &mut Table,
-    room: &mut Table,
-) -> u64 {
-    let size = list(s.k, word, found, shelf);
-    shelf_pages(rt, s, word, size, shelf, room)
-}
+    // The vigemin of a k-mer, where the operation finds it.
+    fn vigemin(&self, kmer: u64) -> Result<Mer, Differs> {
+        let Settings { k, m, key } = self.settings;
+        let mer = self.settings.plain_vigemin(kmer);
+        let found = vigemins::vigemin(k, m, key, kmer);
+        let word = found.map(|found| found.word);
+        let position = found.map_or(0, |found| found.position);
+        let right = self.same("vigemin", kmer, word, mer.word);
+        let placed = self.same("position of the vigemin", kmer, Ok(position), mer.position);
+        right?;
+        placed?;
+        Ok(mer)
+    }
 
-// Goes through the shelves of four words, by pages. Answers the number of pages; 0 where one differs.
-fn shelves_pages(
-    rt: &HostRuntime,
-    s: Settings,
-    state: u64,
-    found: &Table,
-    shelf: &mut Table,
-    room: &mut Table,
-) -> u64 {
-    let words = power(s.m);
-    let mut pages = 0;
-    let mut n = 0;
-    while n < 4 {
-        let word = nth_word(n, words, s.key, state);
-        let more = word_pages(rt, s, word, found, shelf, room);
-        if more == 0 {
-            return 0;
+    // Finds the vigemin of every k-mer, and tallies the words, where the operation finds the same.
+    fn vigemins(&self, found: &mut [u64], tally: &mut [u64; MOST]) -> Result<(), Differs> {
+        for (kmer, found) in found.iter_mut().enumerate() {
+            let Mer { word, .. } = self.vigemin(kmer as u64)?;
+            *found = word;
+            tally[word as usize] = tally[word as usize].wrapping_add(1);
         }
-        pages = wrapping_add_u64(pages, more);
-        n += 1;
+        Ok(())
     }
-    pages
+
+    // Compares the size of a word with what was counted.
+    fn size(&self, word: u64, counted: u64) -> Result<(), Differs> {
+        let Settings { k, m, key } = self.settings;
+        self.same("size", word, sizes::size(k, m, key, word), counted)
+    }
+
+    // Compares the size of every word with its tally; and the sizes must add up to 4^k.
+    fn sizes(&self, tally: &[u64]) -> Result<(), Differs> {
+        let mut sum = 0u64;
+        for (word, counted) in tally.iter().enumerate() {
+            self.size(word as u64, *counted)?;
+            sum = sum.wrapping_add(*counted);
+        }
+        let words = tally.len() as u64;
+        self.same("sum of the sizes", words, Ok(sum), power(self.settings.k))
+    }
+
+    // Compares what a page from a place of the shelf on writes with the k-mers that are due, in a room that is blank before and after.
+    fn page(&self, word: u64, start: usize, due: &[u64], room: &mut [u64]) -> Result<(), Differs> {
+        let Settings { k, m, key } = self.settings;
+        let paged = shelves::page(k, m, key, word, start as u64, room);
+        let wanted = due.iter().copied().chain(iter::repeat(BLANK));
+        let right = room
+            .iter()
+            .zip(wanted)
+            .take_while(|(entry, wanted)| **entry == *wanted)
+            .count() as u64;
+        room.fill(BLANK);
+        let written = self.same("number written by a page", word, paged, due.len() as u64);
+        let entries = room.len() as u64;
+        let all = self.same("right entries of a page", word, Ok(right), entries);
+        written?;
+        all
+    }
+
+    // Goes through the shelf of a word by pages, each from where the last one stopped, until none is left and a page writes none. The room takes at least
+    // one k-mer, unless the shelf has none. Answers the number of pages.
+    fn pages(&self, word: u64, shelf: &[u64], room: &mut [u64]) -> Result<u64, Differs> {
+        let mut left = shelf;
+        let mut pages = 0;
+        loop {
+            let (due, rest) = left.split_at(left.len().min(room.len()));
+            self.page(word, shelf.len() - left.len(), due, room)?;
+            pages += 1;
+            if due.is_empty() {
+                return Ok(pages);
+            }
+            left = rest;
+        }
+    }
+
+    // Goes through the shelves of four words, with each room. Answers the number of pages.
+    fn shelves(&self, found: &[u64], generator: Generator) -> Result<u64, Differs>
+        requires { length found.now ≤ MOST }
+    {
+        let mut table = [0; MOST];
+        let mut room = [BLANK; MOST];
+        let mut pages = 0u64;
+        for word in self.settings.listed_words(generator) {
+            let shelf = list(word, found, &mut table);
+            for takes in rooms(shelf.len()) {
+                pages = pages.wrapping_add(self.pages(word, shelf, &mut room[..takes])?);
+            }
+        }
+        Ok(pages)
+    }
+
+    // Compares all under the key. Answers the number of pages.
+    fn all(&self, generator: Generator) -> Result<u64, Differs> {
+        let mut found = [0; MOST];
+        let mut tally = [0; MOST];
+        let kmers = power(self.settings.k) as usize;
+        let words = power(self.settings.m) as usize;
+        self.vigemins(&mut found[..kmers], &mut tally)?;
+        self.sizes(&tally[..words])?;
+        self.shelves(&found[..kmers], generator)
+    }
 }
 
 // ---- the census
 
-// Compares all under one key: `found` has the word of each k-mer's vigemin, `tally` the number of k-mers of each word, by the plain loop; then `tally`
-// takes the shelves. Answers the number of pages; 0 where something differs.
-fn compare_key(rt: &HostRuntime, s: Settings, state: u64) -> u64 {
-    let mut found = [0u64; 65536];
-    let mut tally = [0u64; 65536];
-    if !vigemins_agree(rt, s, &mut found, &mut tally) {
-        return 0;
-    }
-    if !sizes_agree(rt, s, &tally) {
-        return 0;
-    }
-    let mut room = [NONE; 65536];
-    shelves_pages(rt, s, state, &found, &mut tally, &mut room)
-}
-
-// Compares all under each key that is tried. Answers the number of pages; 0 where something differs.
-fn compare_keys(rt: &HostRuntime, k: u64, m: u64) -> u64 {
+// Compares all under each key that is tried. Answers the number of pages.
+fn compare_keys(rt: &impl Print, k: u64, m: u64) -> Result<u64, Differs>
+    requires { (m ≤ k) × (k ≤ 8) }
+{
     let words = power(m);
-    let keys = key_count(words);
     // a start of its own for each k and m
-    let mut state = power(k) + words;
-    let mut pages = 0;
-    let mut n = 0;
-    while n < keys {
-        state = advance(state);
-        let key = nth_key(n, words, state);
-        state = advance(state);
-        let more = compare_key(rt, Settings { k, m, key }, state);
-        if more == 0 {
-            return 0;
-        }
-        pages = wrapping_add_u64(pages, more);
-        n += 1;
+    let mut generator = Generator(power(k) + words);
+    let mut pages = 0u64;
+    for n in 0..key_count(words) {
+        generator = generator.advanced();
+        let key = nth_key(n, words, generator);
+        generator = generator.advanced();
+        let settings = Settings { k, m, key };
+        pages = pages.wrapping_add(Comparison { rt, settings }.all(generator)?);
     }
-    pages
+    Ok(pages)
 }
 
-// Compares all for a k, and prints its line; whether all agreed. Under each key there are 4^k vigemins and 4^m sizes.
-fn compare(rt: &HostRuntime, k: u64) -> io::Result<bool>
+// What agreed for a k; under each key that is four shelves.
+#[derive(Clone, Copy)]
+struct Agreed {
+    k: u64,
+    keys: u64,
+    vigemins: u64,
+    sizes: u64,
+    shelves: u64,
+    pages: u64,
+}
+
+impl fmt::Display for Agreed {
+    fn fmt<W: fmt::Write>(&self, f: &mut fmt::Formatter<W>) -> fmt::Result {
+        let Agreed {
+            k,
+            keys,
+            vigemins,
+            sizes,
+            shelves,
+            pages,
+        } = *self;
+        write!(
+            f,
+            "k={k}: {keys} keys, {vigemins} vigemins, {sizes} sizes, and {shelves} shelves in {pages} pages agree"
+        )
+    }
+}
+
+// Compares all for a k. Under each key there are 4^k vigemins, 4^m sizes and four shelves.
+fn compare(rt: &impl Print, k: u64) -> Result<Agreed, Differs>
     requires { k ≤ 8 }
 {
-    let mut keys = 0;
-    let mut sizes = 0;
-    let mut pages = 0;
-    let mut m = 1;
-    while m <= k {
-        let more = compare_keys(rt, k, m);
-        if more == 0 {
-            return Ok(false);
-        }
+    let mut keys = 0u64;
+    let mut sizes = 0u64;
+    let mut pages = 0u64;
+    for m in 1..=k {
+        pages = pages.wrapping_add(compare_keys(rt, k, m)?);
         let words = power(m);
         let tried = key_count(words);
-        keys = wrapping_add_u64(keys, tried);
-        sizes = wrapping_add_u64(sizes, tried << (2 * m));
-        pages = wrapping_add_u64(pages, more);
-        m += 1;
+        keys = keys.wrapping_add(tried);
+        sizes = sizes.wrapping_add(tried * words);
     }
-    print_line(rt, k, keys, keys << (2 * k), sizes, pages)?;
-    Ok(true)
+    Ok(Agreed {
+        k,
+        keys,
+        vigemins: keys.wrapping_mul(power(k)),
+        sizes,
+        shelves: keys.wrapping_mul(4),
+        pages,
+    })
 }
 
 fn main(rt: HostRuntime) -> io::Result<()> {
-    let mut k = 1;
-    while k <= MOST_LETTERS {
-        if !compare(&rt, k)? {
+    for k in 1..=MOST_LETTERS {
+        let Ok(agreed) = compare(&rt, k) else {
             return Ok(());
-        }
-        k += 1;
+        };
+        println!(rt; "{agreed}")?;
     }
     Ok(())
 }

@@ -2,5 +2,5 @@
 use Rattle.std.proofs.Common.{arith, length-take}
 use Rattle.cases.proofs.operations.long_scan.Goals as goal
 
-pub slice_bounds-rising-end : goal.slice_bounds-rising-end
-slice_bounds-rising-end c = simp length-take (omega arith)
+pub slice_bounds-seq-end-2 : goal.slice_bounds-seq-end-2
+slice_bounds-seq-end-2 c = simp length-take (omega arith)
