@@ -22,7 +22,7 @@ use Rattle.laws.specs.Listings.{pages-shelf}
 use Rattle.laws.specs.RoundTrips.{vigemin-outcome}
 use Rattle.vigemins.specs.Answers.{found}
 use Rattle.sizes.specs.Answers.{counted}
-use Rattle.listers.specs.Answers.{listed, Listed, list_answer, list_outcome}
+use Rattle.listers.specs.Answers.{listed, listed-room, Listed, list_answer, list_outcome}
 use Rattle.demands.specs.Promises.{LentRoom, Answer, Finds, Sizes, Lists}
 use Rattle.demands.specs.First.{list-refuses}
 use Rattle.vigemins.proofs.vigemin.Kinds as vigemin-kinds
@@ -94,7 +94,7 @@ module _ {k m key word : ℕ} (a : ShelfAccepted k m key word) where
       let none = sym (list-refuses κs k m key word each room r last h).0.first ∙ z in
       let e = h ∙ ap (λ (n : ℕ). list_answer n f k w room.now) none in
       let written : (listed r last).written ≡ size f k w = ap (λ (o : Listed). o.written) e in
-      let held : last ≡ over (map val (shelf f k w)) room.now = ap (λ (o : Listed). o.room) e in
+      let held : last ≡ over (map val (shelf f k w)) room.now = sym (listed-room r last) ∙ ap (λ (o : Listed). o.room) e in
       let front : take (listed r last).written last ≡ map val (shelf f k w) =
       ap₂ (λ (n : ℕ) (l : List ℕ). take n l) written held ∙ take_at (map val (shelf f k w)) _ (size f k w) (length-map (shelf f k w) val) in
       (rw front (shelf-means k (word_of m key) w (fits a)), written ∙ sym (size-defined a s g), rw front held)

@@ -4,7 +4,7 @@
 -- is room beyond what is written changed. The lists are spelled out first; each ground, with its number and its test, is in `Refusals` of
 -- `definitions`.
 -- Assumes nothing.
-use Rattle.std.specs.Prelude.{ℕ, zero, suc, ◌+◌, ◌-◌, ◌*◌, ◌^◌, ◌≤◌, ◌<◌, min, true, false, ◌↔◌, ◌≡◌, refl, length, replicate, drop}
+use Rattle.std.specs.Prelude.{ℕ, zero, suc, Result, Ok, Err, ◌+◌, ◌-◌, ◌*◌, ◌^◌, ◌≤◌, ◌<◌, min, true, false, ◌↔◌, ◌≡◌, refl, length, replicate, drop}
 use mathlib.Core.List.{List, [], ◌∷◌, ◌++◌, map, Memᴰ}
 use Rattle.std.specs.declared.cmp.Ordering.TheVariants.{Less}
 use Rattle.std.proofs.Common.{sym, ap, subst, ◌∙◌, arith, drop_at}
@@ -23,6 +23,7 @@ use Rattle.laws.specs.RoundTrips.{size_small}
 use Rattle.laws.specs.Numbers.{length-text}
 use Rattle.laws.specs.Orders.{key_ranking}
 use Rattle.laws.specs.Refusals.{numbers, rising, refusal-met, refusal-zero, refusal-none, refusal-lowest}
+use Rattle.refusals.specs.declared.Refusal.{Refusal}
 use Rattle.words.specs.Answers.{packed, unpacked}
 use Rattle.vigemins.specs.Answers.{found}
 use Rattle.sequences.specs.Answers as sequences
@@ -31,7 +32,7 @@ use Rattle.states.specs.Answers as states
 use Rattle.worksheets.specs.Answers.{worked}
 use Rattle.sizes.specs.Answers as sizes
 use Rattle.counters.specs.Answers as counters
-use Rattle.shelves.specs.Answers.{paged}
+use Rattle.shelves.specs.Answers.{paged, paged-room}
 use Rattle.listers.specs.Answers as listers
 use Rattle.lines.specs.Answers.{lined}
 use Rattle.cards.specs.Answers.{printed}
@@ -341,12 +342,17 @@ unfolding listers.list_answer
 list-rest f k w zero room = rest-kept (map val (shelves.shelf f k w)) room (shelves.size f k w) (length-map (shelves.shelf f k w) val)
 list-rest f k w (suc n) room = refl
 
+-- the room of an answer as an outcome is what the room holds at last
+pub unpacked-room : (r : Result ℕ Refusal) (last : List ℕ) → (unpacked r last).room ≡ last
+unpacked-room (Ok n) last = refl
+unpacked-room (Err e) last = refl
+
 -- unpacking, refused or not, changes no more of the room than it says that it wrote (of the scans ScanIs in Second says it and, refused, scan-refuses)
 pub unpack-spare : (κs : Lfts 1) (word n : ℕ) (room : LentRoom) (r : _) (last : List ℕ) → Unpacks κs word n room r last
     → drop (unpacked r last).written last ≡ drop (unpacked r last).written room.now
 unfolding outcomes.unpack_outcome
 unpack-spare κs word n room r last h =
-    subst (λ (o : outcomes.Unpacked). drop o.written o.room ≡ drop o.written room.now) (sym h)
+    ap (λ (l : List ℕ). drop (unpacked r last).written l) (sym (unpacked-room r last)) ∙ subst (λ (o : outcomes.Unpacked). drop o.written o.room ≡ drop o.written room.now) (sym h)
     (unpack-rest n word (refusal (unpack_tests word n room.now)) room.now)
 
 -- a page
@@ -354,7 +360,7 @@ pub page-spare : (κs : Lfts 1) (k m key word start : ℕ) (room : LentRoom) (r 
     → drop (paged r last).written last ≡ drop (paged r last).written room.now
 unfolding outcomes.page_outcome
 page-spare κs k m key word start room r last h =
-    subst (λ (o : outcomes.Paged). drop o.written o.room ≡ drop o.written room.now) (sym h)
+    ap (λ (l : List ℕ). drop (paged r last).written l) (sym (paged-room r last)) ∙ subst (λ (o : outcomes.Paged). drop o.written o.room ≡ drop o.written room.now) (sym h)
     (page-rest (keyed (word_of m key)) k (word_of m word) start (refusal (page_tests k m key word start)) room.now)
 
 -- a whole shelf by pages
@@ -362,5 +368,5 @@ pub list-spare : (κs : Lfts 1) (k m key word each : ℕ) (room : LentRoom) (r :
     → drop (listers.listed r last).written last ≡ drop (listers.listed r last).written room.now
 unfolding listers.list_outcome
 list-spare κs k m key word each room r last h =
-    subst (λ (o : listers.Listed). drop o.written o.room ≡ drop o.written room.now) (sym h)
+    ap (λ (l : List ℕ). drop (listers.listed r last).written l) (sym (listers.listed-room r last)) ∙ subst (λ (o : listers.Listed). drop o.written o.room ≡ drop o.written room.now) (sym h)
     (list-rest (keyed (word_of m key)) k (word_of m word) (refusal (list_tests k m key word each room.now)) room.now)

@@ -3,7 +3,7 @@
 -- `laws`; likewise for the other operations), and every sequence that is not refused.
 -- That the size and the vigemin are so stands in proofs/.
 -- Assumes nothing.
-use Rattle.std.specs.Prelude.{ℕ, suc, ◌+◌, ◌-◌, ◌*◌, ◌≤◌, ◌<◌, ◌&&◌, List, ◌≡◌, length, get_or}
+use Rattle.std.specs.Prelude.{ℕ, suc, Result, Ok, Err, ◌+◌, ◌-◌, ◌*◌, ◌≤◌, ◌<◌, ◌&&◌, List, ◌≡◌, length, get_or}
 use Rattle.std.proofs.Math.Path.{refl, ap}
 use Rattle.std.proofs.Common.{sym, subst, ◌∙◌, arith}
 use contract.Lifetimes.{Lfts}
@@ -22,12 +22,14 @@ use Rattle.laws.specs.Split.{column-at, column-above}
 use Rattle.laws.specs.Accepted.{PackAccepted, UnpackAccepted, ShelfAccepted, CounterAccepted, ScanAccepted, accepted-word, accepted-counter, accepted-scan, size-count}
 use Rattle.laws.specs.RoundTrips.{pack-outcome, unpack-outcome, counter-row}
 use Rattle.laws.proofs.RoundTrips.{worksheet-size}
+use Rattle.refusals.specs.declared.Refusal.{Refusal}
 use Rattle.words.specs.Answers.{packed, unpacked}
 use Rattle.scans.specs.Answers.{scanned}
 use Rattle.worksheets.specs.Answers.{worked}
 use Rattle.sizes.specs.Answers.{counted}
 use Rattle.counters.specs.Answers as counters
 use Rattle.demands.specs.Promises.{Lent, LentRoom, Packs, Unpacks, Scans, ScansBytes, Works, Sizes, Counts, ForeignScans}
+use Rattle.demands.specs.First.{unpacked-room}
 use Rattle.demands.specs.Meanings.{mer_at, keyed_number, Vigemin, Antemer, Postmer, Number, antemer-means, postmer-means, number-filter}
 
 -- ---- sizes and worksheets
@@ -176,18 +178,27 @@ scan-answered {k} {m} {key} {each} {seq} {room} a entries h =
       },
     )
 
+-- the room of an answer as an outcome is what the room holds at last
+scanned-room : (r : Result ℕ Refusal) (last : List ℕ) → (scanned r last).room ≡ last
+scanned-room (Ok n) last = refl
+scanned-room (Err e) last = refl
+
 module _ (κs : Lfts 2) {k m key : ℕ} (seq : Lent) (room : LentRoom) where
   -- whatever the scan may answer, and leave in the room
   pub scan-right : ScanAccepted k m key seq.now 1 room.now → (r : _) (last : List ℕ) → Scans κs k m key seq room r last
       → ((scanned r last).refusal ≡ 0) × ScanIs (λ ps. ps) (word_of m key) k m seq.now room.now (scanned r last).windows last
   unfolding scan_outcome
-  scan-right a r last h = scan-answered a (λ ps. ps) h
+  scan-right a r last h =
+      subst (λ (l : List ℕ). ((scanned r last).refusal ≡ 0) × ScanIs (λ ps. ps) (word_of m key) k m seq.now room.now (scanned r last).windows l)
+      (scanned-room r last) (scan-answered a (λ ps. ps) h)
 
   -- the scan into bytes: four for each position, high first
   pub scan-bytes-right : ScanAccepted k m key seq.now 4 room.now → (r : _) (last : List ℕ) → ScansBytes κs k m key seq room r last
       → ((scanned r last).refusal ≡ 0) × ScanIs as_bytes (word_of m key) k m seq.now room.now (scanned r last).windows last
   unfolding scan_bytes_outcome
-  scan-bytes-right a r last h = scan-answered a as_bytes h
+  scan-bytes-right a r last h =
+      subst (λ (l : List ℕ). ((scanned r last).refusal ≡ 0) × ScanIs as_bytes (word_of m key) k m seq.now room.now (scanned r last).windows l)
+      (scanned-room r last) (scan-answered a as_bytes h)
 
   -- and so the foreign scan
   pub foreign-scan-right : ScanAccepted k m key seq.now 4 room.now → (r : _) (last : List ℕ) → ForeignScans κs k m key seq room r last
@@ -213,4 +224,4 @@ pub unpack-right : (κs : Lfts 1) (word n : ℕ) (room : LentRoom) → UnpackAcc
     → ((unpacked r last).refusal ≡ 0) × ((unpacked r last).written ≡ n) × (last ≡ over (text (word_of n word)) room.now)
 unpack-right κs word n room a r last h =
     let e = h ∙ unpack-outcome a in
-    (ap (λ (o : Unpacked). o.refusal) e, ap (λ (o : Unpacked). o.written) e, ap (λ (o : Unpacked). o.room) e)
+    (ap (λ (o : Unpacked). o.refusal) e, ap (λ (o : Unpacked). o.written) e, sym (unpacked-room r last) ∙ ap (λ (o : Unpacked). o.room) e)

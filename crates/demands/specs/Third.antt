@@ -21,7 +21,7 @@ use Rattle.laws.specs.Accepted.{ShelfAccepted}
 use Rattle.laws.specs.Listings.{Accepted, handed, room_of, page-outcome, page-written, page-handed, handed_over, stopped_at, RoomForOne, pages-served, pages-reach, some-room}
 use Rattle.refusals.specs.Numbers.{given, number-given, refusal-most}
 use Rattle.sizes.specs.Answers.{counted}
-use Rattle.shelves.specs.Answers.{paged}
+use Rattle.shelves.specs.Answers.{paged, paged-room}
 use Rattle.demands.specs.Promises.{LentRoom, Answer, Sizes, Pages}
 use Rattle.demands.specs.Meanings.{Vigemin}
 use Rattle.demands.specs.Second.{size-defined}
@@ -76,6 +76,8 @@ module _ (κs : Lfts 1) (k m key word : ℕ) where
   handed_out start [] h = refl
   handed_out start (c ∷ calls) h =
       ap (λ (l : List ℕ). take (paged c.answer c.last).written c.last ++ l) (handed_out (start + (paged c.answer c.last).written) calls h.2)
+      ∙ ap (λ (l : List ℕ). take (paged c.answer c.last).written l ++ handed_over (page_outcome k m key word) (start + (paged c.answer c.last).written) (rooms calls))
+      (sym (paged-room c.answer c.last))
       ∙ ap (λ (o : Paged). handed o ++ handed_over (page_outcome k m key word) (start + o.written) (rooms calls)) h.0
 
   pub stopped-at : (start : ℕ) (calls : List (Call κs)) → InRow start calls → stop_of start calls ≡ stopped_at (page_outcome k m key word) start (rooms calls)
@@ -127,7 +129,7 @@ module _ {k m key word : ℕ} (a : ShelfAccepted k m key word) where
       let starts : start ≤ size f k w = omega (arith, e, size-defined a s g) in (
         ap (λ (o : Paged). o.refusal) (h ∙ page-outcome a start room.now starts),
         ap (λ (o : Paged). o.written) h ∙ page-written a start room.now starts ∙ ap (λ (n : ℕ). min (length room.now) (n - start)) (sym (size-defined a s g)),
-        ap handed h ∙ page-handed a start room.now starts,
+        ap (λ (l : List ℕ). take (paged r last).written l) (sym (paged-room r last)) ∙ ap handed h ∙ page-handed a start room.now starts,
       )
 
 -- ---- exactly one shelf
@@ -142,7 +144,7 @@ page-given k m key word start room = go (refusal grounds) (refusal-most grounds 
 
     go : (n : ℕ) → n ≤ 10 → let o = page_answer n (keyed (word_of m key)) k (word_of m word) start room in paged (given o.refusal o.written) o.room ≡ o
     go zero h = refl
-    go (suc n) h = ap (λ (r : ℕ). record { refusal = r; written = 0; room = room }) (number-given (suc n) 0 h)
+    go (suc n) h = ap (λ (r : ℕ). record { refusal = r; written = 0; room = room }) (number-given {A = ℕ} (suc n) 0 h)
 
 -- and that of the size
 size-given : (k m key word : ℕ) → let o = size_outcome k m key word in counted (given o.refusal o.count) ≡ o
@@ -154,7 +156,7 @@ size-given k m key word = go (refusal grounds) (refusal-most grounds refl)
 
     go : (n : ℕ) → n ≤ 10 → let o = size_answer n (keyed (word_of m key)) k (word_of m word) in counted (given o.refusal o.count) ≡ o
     go zero h = refl
-    go (suc n) h = ap (λ (r : ℕ). record { refusal = r; count = 0 }) (number-given (suc n) 0 h)
+    go (suc n) h = ap (λ (r : ℕ). record { refusal = r; count = 0 }) (number-given {A = ℕ} (suc n) 0 h)
 
 -- calls of `page` that go through a whole shelf: in a row from place 0, until the size is reached
 pub record ThroughShelf (κs : Lfts 1) (k m key word : ℕ) (calls : List (Call κs)) : Type 0 where
