@@ -107,6 +107,7 @@ impl Setting {
     }
 
     // T: the least j from 2 to i + 1 that ties the letter; i + 2 where there is none.
+    // By hand: with i + 2 for none, i + 2 - T letters are shared again in every case.
     fn least_tied(self, i: u64, letter: u64) -> u64
         requires { (i < self.m) × (letter < 4) }
         ensures { result ≡ T (ranking self) (own_word self) (λ j. true) i letter }

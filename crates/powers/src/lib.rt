@@ -93,6 +93,7 @@ pub fn too_large(n: u64, word: u64) -> bool
 }
 
 // Refuses what every keyed operation refuses: 1, 2 or 3.
+// By hand: k, m and the key, and a word beside them, come to every operation as plain numbers, as document 01 calls it; docs/GUIDE.md names them so.
 pub fn order_refusal(k: u64, m: u64, key: u64) -> Result<(), Refusal>
     ensures { refusal_in result ≡ refusal (order_grounds k m (bad_key m key)) }
 {

@@ -17,6 +17,7 @@ ghost use Rattle.scans.specs.Readings.{Entries, Suffixes, Prepared, SetTo, keyed
 use refusals::Refusal;
 
 // The largest number of 64 bits: no stamp is above it.
+// By hand: so the least of no stamps is a number, and a minimum tests nothing.
 const TOP: u64 = u64::MAX;
 
 // What room is made of: so many entries in a row stand for a position.

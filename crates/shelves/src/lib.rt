@@ -19,6 +19,7 @@ use refusals::Refusal;
 use states::States;
 
 // What is added to a state where the word was met.
+// By hand: a state and whether the word was met are one index of the tables.
 const MET: u8 = 32;
 
 // Where a letter leads, by its next state: the word is met where that is m.
