@@ -1,9 +1,9 @@
 -- Texts that are written one after the other.
 -- Assumes nothing.
-use Rattle.std.proofs.Common.{ℕ, suc, ◌+◌, ◌-◌, ◌≤◌, ◌<◌, List, [], ◌∷◌, ◌++◌, map, length, get_or, take, drop, replicate, Result, Ok, Err, ◌≡◌, refl, sym, ap, ◌∙◌, arith, add-zero, zero-add, add-one, append_assoc, length-take-le, drop-drop}
+use Rattle.std.proofs.Common.{ℕ, suc, ◌+◌, ◌-◌, ◌≤◌, ◌<◌, List, [], ◌∷◌, ◌++◌, map, length, get_or, take, drop, replicate, Result, Ok, Err, ◌≡◌, sym, ap, ◌∙◌, arith, add-zero, zero-add, add-one, append_assoc, length-take-le, drop-drop}
 use Rattle.std.proofs.Math.Nat.{add-suc, suc-add}
 use Rattle.std.proofs.lemmas.List.{drop-replicate, take-append-drop, length-map}
-use Rattle.std.proofs.lemmas.Slice.{take-put_mid, drop-put_mid}
+use Rattle.std.proofs.lemmas.Slice.{drop-put_mid}
 use borrow.Rule.Slice.PartMut.{put_mid}
 use Rattle.std.proofs.Math.Seq.{take-append_seam, take-suc}
 use mathlib.Core.List.{map-append}
@@ -28,10 +28,6 @@ module _ {n : ℕ} {bytes : List ℕ} (t : List ℕ) (text : IsText n bytes) (wh
     zeros = drop-put_mid n (n + length t - n) bytes t (n + length t) (omega arith) (omega (arith, text.inside)) (omega arith)
         ∙ rw (← drop-drop (length t) n bytes, text.zeros, drop-replicate) (ap (λ (m : ℕ). replicate m 0) (omega arith));
   }
-
-  -- it is the one and the other
-  pub laid-front : take (n + length t) (put_mid n (n + length t - n) bytes t) ≡ take n bytes ++ t
-  laid-front = take-put_mid n (n + length t - n) bytes t (n + length t) refl (omega arith)
 
 -- how long the text is
 pub text-length : {n : ℕ} {bytes : List ℕ} → IsText n bytes → length bytes ≡ 664 → length (take n bytes) ≡ n

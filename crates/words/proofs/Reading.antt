@@ -1,6 +1,6 @@
 -- Reading a text, letter by letter.
 -- Assumes nothing.
-use Rattle.std.proofs.Common.{ℕ, ◌+◌, ◌*◌, ◌^◌, ◌≤◌, ◌<◌, Bool, true, false, cond, not, Option, Some, None, Result, Err, List, length, get_or, take, drop, ◌≡◌, refl, sym, ap, ◌∙◌, add-one, zero-add, take_all, arith, ltb-true, lt-ltb, le-ltb}
+use Rattle.std.proofs.Common.{ℕ, ◌+◌, ◌*◌, ◌^◌, ◌≤◌, ◌<◌, Bool, true, false, cond, not, Option, Some, None, Result, Err, List, length, get_or, take, drop, ◌≡◌, refl, sym, ap, ◌∙◌, add-one, take_all, arith, ltb-true, lt-ltb, le-ltb}
 use Rattle.std.specs.Option.{ok_or}
 use Rattle.std.proofs.lemmas.Bool.Decides.{nat_tests}
 use Rattle.std.proofs.Math.Nat.{pow-le-pow_right, lt_of_lt_of_le}
@@ -28,10 +28,6 @@ length_few n h = grind (arith, nat_tests)
 -- a byte that is a letter is read as one of the four
 pub letter-lt : (byte : ℕ) → is_letter_byte byte ≡ true → letter_of byte < 4
 letter-lt byte e = ltb-true (letter_of byte) 4 e
-
--- none is read yet
-pub reads_none : (t : List ℕ) → Reads t 0 0
-reads_none t = record { good = zero-add (first_bad_place t); spelt = refl; small = omega arith }
 
 -- where a byte is refused, it is no letter
 pub letter-bad : {R : Type 0} (byte : ℕ) (bad : R) {o : Option ℕ} {r : Result ℕ R} {x : R} → o ≡ letter_read byte → r ≡ ok_or o bad → r ≡ Err x

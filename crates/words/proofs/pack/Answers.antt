@@ -6,7 +6,7 @@ use Rattle.std.proofs.lemmas.Option.{cond_some}
 use Rattle.std.proofs.lemmas.Bool.{not-true, not-false}
 use Rattle.std.proofs.lemmas.Result.{err_from_is_err_and}
 use Rattle.definitions.specs.Refusals.{bad_length}
-use Rattle.words.proofs.Reading.{length_few, letter-lt, letter-bad, reads_none, reads-fits, reads-more, reads-bad, pack-unlong, pack-bad, pack-read}
+use Rattle.words.proofs.Reading.{length_few, letter-lt, letter-bad, reads-fits, reads-more, reads-bad, pack-unlong, pack-bad, pack-read}
 use Rattle.words.proofs.pack.Goals as goal
 use Rattle.words.proofs.pack.Goals.{Else-not-is_length}
 
@@ -16,9 +16,6 @@ long c = not-true _ (sym c.is_length.ensures ∙ c.if-not-is_length.false)
 
 pub returns-then-not-is_length : goal.returns-then-not-is_length
 returns-then-not-is_length c = sym (pack-unlong c.args.text.now (not-false _ (sym c.is_length.ensures ∙ c.if-not-is_length.true)))
-
-pub loop-place-init : goal.loop-place-init
-loop-place-init c = reads_none c.args.text.now
 
 pub overflow_mul-word : goal.overflow_mul-word
 overflow_mul-word c =

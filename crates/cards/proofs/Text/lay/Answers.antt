@@ -1,7 +1,7 @@
 -- `cards::Text::lay` meets its contract.
 -- Assumes nothing.
-use Rattle.std.proofs.Common.{ℕ, ◌+◌, ◌≤◌, ◌++◌, List, length, ap, ◌∙◌, arith}
-use Rattle.cards.proofs.Laying.{laid-text, laid-front, text-length}
+use Rattle.std.proofs.Common.{◌+◌, ◌≤◌, length, ap, arith}
+use Rattle.cards.proofs.Laying.{laid-text, text-length}
 use Rattle.cards.proofs.Text.lay.Goals as goal
 use Rattle.cards.proofs.Text.lay.Goals.{After-copy_from_slice}
 
@@ -12,7 +12,3 @@ fits c = omega (arith, c.requires, text-length c.self.invariant c.self.told, ap 
 pub invariant_of-self : goal.invariant_of-self
 invariant_of-self c =
     rw c.copy_from_slice.ensures.after (laid-text c.args.bytes.now c.self.invariant c.self.told (fits (goal.at.invariant_of-self c).After-copy_from_slice))
-
-pub returns-clause-text : goal.returns-clause-text
-returns-clause-text c =
-    rw c.copy_from_slice.ensures.after (laid-front c.args.bytes.now c.self.invariant c.self.told (fits (goal.at.returns-clause-text c).After-copy_from_slice) ∙ ap (λ (l : List ℕ). l ++ c.args.bytes.now) c.self.view_is)
