@@ -4,6 +4,7 @@ use std::array;
 
 // What is asked: a text; k, m, the key, and a word or a k-mer; the start of a page; and how many entries of room are lent. Then what must come of it:
 // the refusal, two numbers beside it, and what the room must have after.
+// By hand: a column has the number of the refusal, and 0 where nothing is refused.
 #[derive(Clone, Copy)]
 pub struct Case<'a> {
     pub text: &'a [u8],

@@ -278,6 +278,7 @@ impl<R: Print> Comparison<'_, R> {
     fn pages(&self, word: u64, shelf: &[u64], room: &mut [u64]) -> Result<u64, Differs> {
         let mut left = shelf;
         let mut pages = 0;
+        // By hand: the last page is compared too, and only then is seen to be one that writes none.
         loop {
             let (due, rest) = left.split_at(left.len().min(room.len()));
             self.page(word, shelf.len() - left.len(), due, room)?;
