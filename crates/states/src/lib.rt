@@ -24,7 +24,7 @@ use refusals::Refusal;
 use std::cmp::Ordering;
 
 // More letters than are ever left.
-// By hand: it is above every number of letters left, so that one comparison tells a ban; an `Option` would want a match for each letter.
+// By hand: a number and no Option, since what is left is below it, so that no test has a case for a letter that is never banned.
 pub const NEVER: u8 = 64;
 
 // A row of a table: one entry for each letter.
@@ -65,7 +65,7 @@ impl<E: Copy> Four<E> {
 }
 
 // The states of a word: the special alphabets, the next states and the bans.
-// By hand: a table for each, and no table of records: whoever counts goes through the bans and the next states sixteen bytes at a time.
+// By hand: four arrays and no array of rows, since each table is read and lent alone.
 #[derive(Clone, Copy)]
 pub struct States {
     pub own: [u8; 32],

@@ -20,7 +20,7 @@ use states::{NEVER, States};
 use std::cmp::Ordering;
 
 // A state above all others, where a banned letter leads: there are no ways from it.
-// By hand: the 0 that stands there is read like any ways. A test for an `Option` at each letter doubles the time of a size.
+// By hand: a number and no Option, since 0 ways stand at its place and a sum has no case for a banned letter.
 const NOWHERE: u8 = 32;
 
 // What a worksheet is made from: k, m, the states of a word of m letters, and the powers of four.
@@ -102,19 +102,18 @@ impl<'s> Source<'s> {
         self.m
     }
 
-    // For each state below `live` the ways to end an antemer there, 1 or 0; the others have none.
-    fn ends(&self, live: u64) -> [u64; 64]
-        requires { (0 < live) × (live ≤ self.now.m) }
-        ensures { Each self.now (λ ρ w. EndsAre ρ w live result) }
+    // Writes, over zeros, for each state below `live` the ways to end an antemer there, 1 or 0; the others have none.
+    fn ends(&self, live: u64, ends: &mut [u64; 64])
+        requires in_range { (0 < live) × (live ≤ self.now.m) }
+        requires zeros { ends.old ≡ tabulate (λ i. 0) 64 }
+        ensures { Each self.now (λ ρ w. EndsAre ρ w live ends.new) }
     {
-        let mut ends: [u64; 64] = [0; 64];
         ends[0] = 1;
         let mut fall: u64 = 0;
         for i in 1..live {
             ends[i as usize] = self.end_at(ends[fall as usize], i);
             fall = self.own_entry(fall, i, &self.states.next) as u64;
         }
-        ends
     }
 
     // In how many rows the postmers begin with w at all: w's own letters are not banned in it while so few letters follow.
@@ -191,7 +190,8 @@ impl<'s> Source<'s> {
             live,
             rows: self.k - self.m,
         };
-        let mut first = self.ends(live);
+        let mut first = [0; 64];
+        self.ends(live, &mut first);
         self.column(side, &mut first)
     }
 
@@ -225,9 +225,7 @@ fn way(c: usize, done: u64, allowed: &[u8; 128], ways: &[u64; 64]) -> u64
     requires { WayReady c done allowed.now ways.now }
     ensures { result ≡ way_of c done allowed.now ways.now }
 {
-    let at = done as usize;
-    let all = &ways[..];
-    let from = &all[at..];
+    let from = &ways[done as usize..];
     from[allowed[c] as usize]
 }
 
@@ -265,7 +263,7 @@ fn free_row(free: u64, r: u64, power: u64, ways: &mut [u64; 64])
 }
 
 // The two columns of a worksheet.
-// By hand: document 01 names one record with two columns of 31 counts.
+// By hand: document 01 names the form, two arrays of 31 counts by value.
 #[derive(Clone, Copy)]
 pub struct Sheet {
     pub antemers: [u64; 31],

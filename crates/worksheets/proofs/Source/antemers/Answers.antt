@@ -6,8 +6,8 @@ use Rattle.worksheets.proofs.Laws.{known-lt, known-le}
 use Rattle.worksheets.proofs.Sides.{live_ways, antemer-side, antemer-column}
 use Rattle.worksheets.proofs.Source.antemers.Goals as goal
 
-pub ends-first-requires : goal.ends-first-requires
-ends-first-requires c =
+pub ends-requires-clause-in_range : goal.ends-requires-clause-in_range
+ends-requires-clause-in_range c =
     let known = c.args.self.now.known in (
       known-lt known (λ ρ w t. (c.reach-live.ensures ρ w t).some),
       known-le known (λ ρ w t. omega (arith, (c.reach-live.ensures ρ w t).most, t.alphabets.word.long)),
@@ -19,7 +19,7 @@ column-requires-clause-countable c =
     ∥∥₁_map self.known
     (λ t. (
       live_ways t.0 t.1 c.reach-live.result,
-      antemer-side t.2 self.k self.in_range.1 self.in_range.2 (c.reach-live.ensures t.0 t.1 t.2) (c.ends-first.ensures t.0 t.1 t.2),
+      antemer-side t.2 self.k self.in_range.1 self.in_range.2 (c.reach-live.ensures t.0 t.1 t.2) (c.ends.ensures t.0 t.1 t.2),
     ))
 
 pub returns : goal.returns
@@ -28,4 +28,4 @@ returns c = λ ρ w t.
     let reached = c.reach-live.ensures ρ w t in
     antemer-column t self.k self.in_range.1 self.in_range.2 reached
     (c.column.ensures (live_ways ρ w c.reach-live.result)
-    (antemer-side t self.k self.in_range.1 self.in_range.2 reached (c.ends-first.ensures ρ w t)))
+    (antemer-side t self.k self.in_range.1 self.in_range.2 reached (c.ends.ensures ρ w t)))

@@ -80,7 +80,7 @@ module _ {ρ : Ranking} {w : Word} {m : ℕ} {s : States} (t : StatesOf ρ w m s
       }
 
 pub loop-i-init : goal.loop-i-init
-loop-i-init c = (omega arith, λ ρ w t. begun ρ w)
+loop-i-init c = (omega arith, λ ρ w t. rw c.requires.zeros (begun ρ w))
 
 pub loop-i-preserved : goal.loop-i-preserved
 loop-i-preserved c =
