@@ -19,7 +19,7 @@ use Rattle.laws.specs.Filters.{filter-full, take-least, part-append, joined, joi
 use Rattle.laws.specs.Counting.{map-agree, filter-words, length-words, words-numbers}
 use Rattle.laws.specs.Walks.{below-cond, accepts, rest, accepts-split, rest-count, ways-count, ways-le}
 use Rattle.laws.specs.Rooms.{over-append, length_over, over_to, over_to-more, rest-whole}
-use Rattle.shelves.specs.Descents.{allowed, leads, met, ways_from, ways_below, completing, Tables, Ready, numbered, under, Listed, Complete, Reached, AtOnce, Longer}
+use Rattle.shelves.specs.Descents.{allowed, leads, met, ways_from, ways_below, completing, Tables, numbered, under, Listed, Complete, Reached, AtOnce, Longer}
 
 -- ---- room that is listed into
 
@@ -305,16 +305,6 @@ module _ {k m word left state begun skip : ℕ} {moves ban ways powers : List �
           all = none_passed ∙ under_one moves ban left state begun rest-alone.0 ∙ ap (λ (x : ℕ). x ∷ []) (sym start);
           fits = omega (arith, rest_lt);
         }
-
-  -- what reading the ways under a letter asks
-  pub ready : 0 < left → Ready m left state moves ban ways
-  ready h =
-      record {
-        known = record { long = d.known.long; right = λ r s l u. d.known.right r s (omega (arith, q.few)) u };
-        live = q.live;
-        some = h;
-        few = left-few;
-      }
 
   -- what going one letter further down asks
   pub longer-ready : {b : ℕ} → 0 < left → b < 4 → Longer m left state begun b

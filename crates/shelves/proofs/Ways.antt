@@ -3,20 +3,19 @@
 use Prim.Native.Nat.{ℕ, suc, ◌+◌, ◌-◌, ◌*◌, ◌^◌, ◌≤◌, ◌<◌}
 use mathlib.Core.Bool.{Bool, true, false, cond}
 use mathlib.Core.List.{List}
-use mathlib.Core.Logic.{inl, inr, ⊎_elim}
+use mathlib.Core.Logic.{inl, ⊎_elim}
 use mathlib.Core.Path.{◌≡◌, refl, ap, ◌∙◌}
-use native.Mathlib.Nat.{zero-add, pow-le-pow_right}
-use native.Mathlib.Numerals.{add-one}
+use native.Mathlib.Nat.{pow-le-pow_right}
 use native.Mathlib.Omega.{arith}
-use borrow.Author.Tests.{eqb-true, eqb-false, leb-true, leb-false}
+use borrow.Author.Tests.{leb-true, leb-false}
 use lib.Dec.{eqb, leb}
-use lib.ListN.{length, get_or, set, take, drop, length-set, length-append, length-take, length-drop, get_or-append}
-use lib.Seq.{get_or-set_other, get_or-append_right}
+use lib.ListN.{length, get_or, take, drop, length-append, length-take, length-drop, get_or-append}
+use lib.Seq.{get_or-append_right}
 use Rattle.std.proofs.Common.{◌++◌, take_at}
 use Rattle.laws.specs.Numbers.{four-pos}
-use Rattle.laws.specs.Rooms.{Written, set_holds, written-up}
+use Rattle.laws.specs.Rooms.{Written}
 use Rattle.laws.specs.Walks.{ways-le}
-use Rattle.shelves.specs.Descents.{allowed, leads, met, ways_from, ways_below, Live, MovesOf, Tables, WaysTo, Ended, Ready, RowReady}
+use Rattle.shelves.specs.Descents.{allowed, leads, met, ways_from, ways_below, Live, Tables, WaysTo, Ended, Ready, RowReady}
 
 -- ---- the table of moves
 
@@ -25,28 +24,6 @@ pub record MovesTo (m to : ℕ) (next moves : List ℕ) : Type 0 where
   pub long : length moves ≡ 256
   pub unmet : (c : ℕ) → c < to → get_or moves c 0 ≡ cond (eqb (get_or next c 0) m) (get_or next c 0 + 32) (get_or next c 0)
   pub after : (c : ℕ) → c < to → get_or moves (128 + c) 0 ≡ get_or next c 0 + 32
-
--- at first none is
-pub moves-none : {m : ℕ} {next moves : List ℕ} → length moves ≡ 256 → MovesTo m 0 next moves
-moves-none e = record { long = e; unmet = λ c h. absurd (omega arith); after = λ c h. absurd (omega arith) }
-
--- in the end all are
-pub moves-all : {m to : ℕ} {next moves : List ℕ} → MovesTo m to next moves → 128 ≤ to → MovesOf m next moves
-moves-all s h = record { long = s.long; unmet = λ c k. s.unmet c (omega arith); after = λ c k. s.after c (omega arith) }
-
-module _ {m c u v : ℕ} {next moves : List ℕ} (s : MovesTo m c next moves) (h : c < 128) (e : u ≡ cond (eqb (get_or next c 0) m) (get_or next c 0 + 32) (get_or next c 0)) (f : v ≡ get_or next c 0 + 32) where
-  -- one place more, with both its entries
-  pub moves_more : MovesTo m (c + 1) next (set (set moves c u) (128 + c) v)
-  moves_more =
-      record {
-        long = length-set (set moves c u) (128 + c) v ∙ first-long;
-        unmet = λ i k. get_or-set_other (set moves c u) (128 + c) i v 0 (λ r. omega arith) ∙ set_holds moves c i (omega (arith, s.long)) (λ q. rw q e) (λ n. s.unmet i (omega (arith, n)));
-        after = λ i k. set_holds (set moves c u) (128 + c) (128 + i) (omega (arith, first-long)) (λ r. let same : i ≡ c = omega arith in rw same f)
-            (λ n. get_or-set_other moves c (128 + i) u 0 (λ r. omega arith) ∙ s.after i (omega (arith, n)));
-      }
-    where
-      first-long : length (set moves c u) ≡ 256
-      first-long = length-set moves c u ∙ s.long
 
 -- ---- states
 
@@ -91,15 +68,6 @@ module _ {m lo hi left state : ℕ} {moves ban old ways : List ℕ} (t : Tables 
         few = q.few;
       }
 
-  -- their place is one of the table
-  pub row_inside : 64 * left + state < 2048
-  row_inside = omega (arith, q.high, q.few)
-
-  -- they are written too
-  pub row_more : {v : ℕ} → v ≡ ways_from moves ban state left
-      → Written lo (state + 1) (64 * left) (λ i. ways_from moves ban i left) old (set ways (64 * left + state) v)
-  row_more e = rw add-one (written-up s (omega (arith, row_inside, s.long, q.known.long)) e refl h)
-
 -- a table whose first 32 numbers are set to 0, and the next 32 to 1, has the row of no letter
 module _ (front ones old : List ℕ) (l : length old ≡ 2048) (f : length front ≡ length (take 32 old)) where
   -- what lies behind the first 32
@@ -107,6 +75,7 @@ module _ (front ones old : List ℕ) (l : length old ≡ 2048) (f : length front
   behind = drop 32 (front ++ drop 32 old)
 
   module _ (o : length ones ≡ length (take 32 behind)) where
+    -- so long is each part
     front-long : length front ≡ 32
     front-long = omega (arith, l, f, length-take 32 old)
 
@@ -116,6 +85,7 @@ module _ (front ones old : List ℕ) (l : length old ≡ 2048) (f : length front
     ones-long : length ones ≡ 32
     ones-long = omega (arith, o, behind-long, length-take 32 behind)
 
+    -- the 0s and the 1s are the ways from the states in which the word was not met, and was
     pub ends : ((i : ℕ) → i < length (take 32 old) → get_or front i 0 ≡ 0) → ((i : ℕ) → i < length (take 32 behind) → get_or ones i 0 ≡ 1)
         → Ended (take 32 (front ++ drop 32 old) ++ (ones ++ drop 32 behind))
     ends zero_each one_each =
@@ -134,53 +104,3 @@ module _ (front ones old : List ℕ) (l : length old ≡ 2048) (f : length front
         at s h false q =
             let low : s < 32 = leb-false 32 s q in
             get_or-append front (ones ++ drop 32 behind) 0 s (omega (arith, front-long)) ∙ zero_each s (omega (arith, front-long, f))
-
--- the row of no letter
-pub row_zero : {m : ℕ} {moves ban ways : List ℕ} → m ≤ 31 → Ended ways → WaysTo m 1 moves ban ways
-row_zero {m} {moves} {ban} {ways} f e = record { long = e.long; right = at }
-  where
-    at : (r t : ℕ) → r < 1 → Live m t → get_or ways (64 * r + t) 0 ≡ ways_from moves ban t r
-    at r t u l =
-        let none : r ≡ 0 = omega arith in
-        rw (none, zero-add) (e.each t (live-lt f l))
-
--- the rows before a row are right
-module _ {m left : ℕ} {moves ban old : List ℕ} (t : Tables m moves ban) (k : WaysTo m left moves ban old) (some : 0 < left) (few : left ≤ 31) where
-  -- it can be written where the word was not met
-  pub unmet-ready : RowReady m 0 m left moves ban old
-  unmet-ready =
-      record {
-        known = k;
-        live = λ s l u. inl u;
-        ordered = omega arith;
-        high = omega (arith, t.few);
-        some = some;
-        few = few;
-      }
-
-  module _ {between : List ℕ} (s : Written 0 m (64 * left) (λ i. ways_from moves ban i left) old between) where
-    -- and then where it was
-    pub met-ready : RowReady m 32 (33 + m) left moves ban between
-    met-ready =
-        record {
-          known = rows-kept t.few k s (omega arith);
-          live = λ i l u. inr (l, omega arith);
-          ordered = omega arith;
-          high = omega (arith, t.few);
-          some = some;
-          few = few;
-        }
-
-    -- then it is right too
-    pub row-right : {ways : List ℕ} → Written 32 (33 + m) (64 * left) (λ i. ways_from moves ban i left) between ways → WaysTo m (left + 1) moves ban ways
-    row-right {ways} u =
-        let before : WaysTo m left moves ban ways = rows-kept t.few (rows-kept t.few k s (omega arith)) u (omega arith) in
-        record { long = before.long; right = λ r i l v. at r i l v (eqb r left) refl before }
-      where
-        at : (r i : ℕ) → r < left + 1 → Live m i → (b : Bool) → eqb r left ≡ b → WaysTo m left moves ban ways → get_or ways (64 * r + i) 0 ≡ ways_from moves ban i r
-        at r i l v true q before =
-            let same : r ≡ left = eqb-true r left q in
-            rw same
-            (⊎_elim (λ w. u.outside (64 * left + i) (inl (omega (arith, t.few))) ∙ s.inside i (omega arith) w)
-            (λ w. u.inside i w.0 (omega arith)) v)
-        at r i l v false q before = before.right r i (omega (arith, eqb-false r left q)) v

@@ -1,11 +1,8 @@
 -- `shelves::run` meets its contract.
 -- Assumes nothing.
-use Rattle.std.proofs.Common.{refl, arith}
+use Rattle.std.proofs.Common.{arith}
 use Rattle.shelves.proofs.Listing.{running_more, running-all}
 use Rattle.shelves.proofs.run.Goals as goal
-
-pub loop-i-init : goal.loop-i-init
-loop-i-init c = record { least = omega arith; within = omega arith; writes = refl }
 
 pub loop-i-preserved : goal.loop-i-preserved
 loop-i-preserved c = running_more c.loop-i.invariant (omega arith) (omega arith)

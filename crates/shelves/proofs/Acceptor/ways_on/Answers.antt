@@ -23,6 +23,3 @@ overflow_add-result-2 c = omega (arith, (summed (goal.at.overflow_add-result-2 c
 
 pub overflow_add-result-3 : goal.overflow_add-result-3
 overflow_add-result-3 c = omega (arith, (summed (goal.at.overflow_add-result-3 c).After-ways_under-t_ways).1)
-
-pub returns : goal.returns
-returns c = (summed (goal.at.returns c).After-ways_under-t_ways).0
