@@ -15,15 +15,15 @@ use Rattle.laws.specs.Minima.{length-values}
 use Rattle.laws.specs.Numbers.{four-pos, spelled-letters, letters-drop}
 use Rattle.laws.specs.Rolls.{rolled, roll-letter, roll-mer, values, value-rolled, values-under, scan-values}
 use Rattle.scans.specs.declared.Settings.{Settings}
-use Rattle.scans.specs.Readings.{top, keyed_word, Tabled, roll_on, Rolled, Rolls, Readable}
+use Rattle.scans.specs.Readings.{top, Prepared, keyed_word, roll_on, Rolled, Readable}
 use Rattle.scans.proofs.Blocks.{Values}
 use Rattle.scans.proofs.Keys.{keyed-room}
 
 -- behind a word that was rolled on every place below the side fits
-pub roll-room : {s : Settings} {table : List ℕ} → Tabled s table → (byte : ℕ) {word r : ℕ} → Rolls table word byte r → (v : ℕ) → word ≡ keyed_word s v
+pub roll-room : {s : Settings} → Prepared s → (byte : ℕ) {word r : ℕ} → Rolled s word byte r → (v : ℕ) → word ≡ keyed_word s v
     → r + s.side ≤ suc top
-roll-room {s} t byte f v e =
-    rw (f s t v e) (keyed-room t.prepared (roll_on s v byte) (mod-lt (v * 4 + letter_of byte) (one-le-pow s.m 4 four-pos)))
+roll-room {s} p byte f v e =
+    rw (f v e) (keyed-room p (roll_on s v byte) (mod-lt (v * 4 + letter_of byte) (one-le-pow s.m 4 four-pos)))
 
 module _ (s : Settings) (seq : List ℕ) (a : Readable s seq) where
   -- how many m-mers there are

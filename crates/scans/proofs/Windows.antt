@@ -2,7 +2,7 @@
 -- Assumes nothing.
 use Prim.Native.Nat.{ℕ, suc, ◌+◌, ◌-◌, ◌*◌, ◌/◌, ◌^◌, ◌≤◌, ◌<◌, min}
 use mathlib.Core.List.{List}
-use mathlib.Core.Path.{◌≡◌, refl, ap, ◌∙◌}
+use mathlib.Core.Path.{◌≡◌, ap, ◌∙◌, subst}
 use native.Mathlib.Numerals.{add-one}
 use native.Mathlib.Omega.{arith}
 use lib.Bits.{bit_and}
@@ -15,25 +15,29 @@ use Rattle.laws.specs.Scans.{length-scan, scan-inside}
 use Rattle.laws.specs.Rolls.{rolled, values}
 use Rattle.scans.specs.declared.Settings.{Settings}
 use Rattle.scans.specs.declared.Run.{Run}
-use Rattle.scans.specs.declared.Runs.{Runs}
-use Rattle.scans.specs.Readings.{top, Entries, Suffixes, keyed_word, Rolled, Readable, Filled, Minima, Begun, Read, ReadBoth, Stepped, Positioned, Writable, positions_of}
+use Rattle.scans.specs.Readings.{top, Entries, Suffixes, keyed_word, Rolled, Readable, Fresh, Filled, Minima, Begun, Read, ReadTo, Writable, positions_of}
 use Rattle.scans.proofs.Blocks.{filled-entries, filled_more, filled-minima, minima-filled, minima-more, minima-place}
 use Rattle.scans.proofs.Letters.{length-mers, mers, rolled-from, mer-read, window-position}
 
--- a ring of tops has the stamps of nothing
-empty-ring : (side width : ℕ) (vs : List ℕ) (from : ℕ) → width ≤ 31 → Filled side width vs from 0 (tabulate (λ _. top) 32)
-empty-ring side width vs from h =
-    record { full = length-tabulate (λ _. top) 32; stamps = λ q l. absurd (omega arith); end = tabulate-at (λ _. top) 32 width 0 (omega arith) }
+-- a ring of tops is fresh
+pub fresh-tops : {width : ℕ} → width ≤ 31 → Fresh width (tabulate (λ _. top) 32)
+fresh-tops {width} h =
+    record { full = length-tabulate (λ _. top) 32; end = tabulate-at (λ _. top) 32 width 0 (omega arith) }
+
+-- and has the stamps of nothing
+pub fresh-filled : {side width : ℕ} {vs : List ℕ} {from : ℕ} {ring : List ℕ} → Fresh width ring → Filled side width vs from 0 ring
+fresh-filled f = record { full = f.full; stamps = λ q l. absurd (omega arith); end = f.end }
 
 -- of so many windows the left run has the first half, and the right one so many from this one on
 abbrev pub behind : ℕ → ℕ
 behind windows = windows - (windows + 1) / 2
 
--- each run has read its window i
-pub record Reached (s : Settings) (seq : List ℕ) (windows i : ℕ) (r : Runs) (left right : List ℕ) : Type 0 where
-  pub within : i < (windows + 1) / 2
-  pub read : ReadBoth s seq (behind windows) r left right
-  pub last : r.block + r.at ≡ i
+-- a window that was read to a place stands in the block that the place tells
+pub read-at : {s : Settings} {seq : List ℕ} {place at : ℕ} {r : Run} {ring : List ℕ} → ReadTo s seq place at r ring → {block : ℕ} → block + at + s.k ≡ place
+    → Read s seq block at r ring
+read-at {s} {seq} {place} {at} {r} {ring} d {block} e =
+    let same : d.block ≡ block = omega (arith, d.there) in
+    subst (λ (b : ℕ). Read s seq b at r ring) same d.read
 
 module _ (s : Settings) (seq : List ℕ) (a : Readable s seq) where
   -- a window whose m-mers were read lies inside the sequence
@@ -81,19 +85,11 @@ module _ (s : Settings) (seq : List ℕ) (a : Readable s seq) where
       let inside = scan-inside (keyed (word_of s.m s.key)) s.k s.m (spelled seq) (block + at) (omega (arith, a.prepared.k_is, a.prepared.wide)) k in
       omega (arith, inside.1, block_inside d, a.short, a.prepared.m_some)
 
-  -- a position for the window of each run is that of window i, and of the one so far behind it
-  pub both-positions : {r : Runs} {from i : ℕ} {left right : List ℕ} → ReadBoth s seq from r left right → r.block + r.at ≡ i → {p q : ℕ}
-      → Positioned s r.block r.at r.left.least left p → Positioned s (r.block + from) r.at r.right.least right q
-      → (p ≡ get_or (positions_of s seq) i 0) × (q ≡ get_or (positions_of s seq) (from + i) 0)
-  both-positions {r} {from} {i} d e one other =
-      let far : r.block + from + r.at ≡ from + i = omega arith in
-      (rw e at (one seq a d.one.minima), rw far at (other seq a d.other.minima))
-
   -- the next window is read
-  pub step-read : {at place : ℕ} {r : Run} {ring : List ℕ} → at < s.width → place < length seq → {word : ℕ} → Rolled s r.word (get_or seq place 0) word
+  pub step-read : {block at place : ℕ} {r : Run} {ring : List ℕ} → Read s seq block at r ring → at < s.width → place ≡ block + at + s.k → place < length seq → {word : ℕ} → Rolled s r.word (get_or seq place 0) word
       → {least : ℕ} → least ≡ min r.least (word + at + s.width)
-      → Stepped s at r seq place ring (record { word = word; least = least }) (set ring at (word + at))
-  step-read {at} {place} {r} {ring} inside in_seq {word} st {least} q block there d =
+      → Read s seq block (at + 1) (record { word = word; least = least }) (set ring at (word + at))
+  step-read {block} {at} {place} {r} {ring} d inside there in_seq {word} st {least} q =
       record { minima = more; word = got.0 ∙ ap (λ (t : ℕ). keyed_word s (rolled s.m (spelled seq) t)) letters }
     where
       vs : List ℕ
@@ -113,11 +109,6 @@ module _ (s : Settings) (seq : List ℕ) (a : Readable s seq) where
           (minima-more s.side s.width (4 ^ s.m) vs (mers s seq a) d.minima inside (omega (arith, length-mers s seq a, a.prepared.k_is)))
 
   -- ---- the first window of a run
-
-  -- what reading it asks, of a ring of tops
-  ready : (from : ℕ) → Filled s.side s.width (values s.m s.key (spelled seq)) from 0 (tabulate (λ _. top) 32)
-  ready from =
-      empty-ring s.side s.width (values s.m s.key (spelled seq)) from (omega (arith, a.prepared.k_is, a.prepared.k_few, a.prepared.m_some))
 
   module _ (from : ℕ) (i : from + s.k ≤ length seq) where
     -- one more m-mer is read
@@ -163,30 +154,8 @@ module _ (s : Settings) (seq : List ℕ) (a : Readable s seq) where
         letters =
             rolled-from s seq a from (s.m - 1 + s.width) {end = from + 0 + s.k} (omega (arith, a.prepared.k_is, a.prepared.m_some)) (omega (arith, a.prepared.wide)) (omega arith)
 
-module _ {s : Settings} {seq : List ℕ} {windows each : ℕ} {room : List ℕ} (w : Writable s seq windows each room) where
+module _ {s : Settings} {seq : List ℕ} {windows each room : ℕ} (w : Writable s seq windows each room) where
   -- a position for each window
   pub length-positions : length (positions_of s seq) ≡ windows
   length-positions =
       length-scan (keyed (word_of s.m s.key)) s.k s.m (spelled seq) ∙ rw length-map (omega (arith, w.all))
-
-  -- what reading the first windows asks, of an empty table and rings of tops
-  pub begins : (Readable s seq × (behind windows + s.k ≤ length seq) × (length {A = ℕ} (tabulate (λ _. 0) 85) ≡ 85))
-      × (Filled s.side s.width (values s.m s.key (spelled seq)) 0 0 (tabulate (λ _. top) 32)
-      × Filled s.side s.width (values s.m s.key (spelled seq)) (behind windows) 0 (tabulate (λ _. top) 32))
-  begins =
-      ((w.readable, omega (arith, w.some, w.all), refl), (ready s seq w.readable 0, ready s seq w.readable (behind windows)))
-
-  -- the first windows were reached
-  pub reached-first : {r : Runs} {left right : List ℕ} → ReadBoth s seq (behind windows) r left right → r.block + r.at ≡ 0
-      → Reached s seq windows 0 r left right
-  reached-first d e = record { within = omega (arith, w.some); read = d; last = e }
-
-  module _ {i : ℕ} {r : Runs} {left right : List ℕ} (h : Reached s seq windows i r left right) where
-    -- the letters that the next windows end in
-    pub next_place : (i + 1 ≡ (windows + 1) / 2 → ⊥) → (i + 1 + s.k - 1 ≡ r.block + r.at + s.k) × (i + 1 + s.k - 1 + (behind windows) < length seq)
-    next_place l = (omega (arith, h.last), omega (arith, w.all, h.last, h.within, l))
-
-    -- the next windows were reached
-    pub reached-next : (i + 1 ≡ (windows + 1) / 2 → ⊥) → {t : Runs} {new_left new_right : List ℕ} → ReadBoth s seq (behind windows) t new_left new_right
-        → t.block + t.at ≡ suc (r.block + r.at) → Reached s seq windows (i + 1) t new_left new_right
-    reached-next l d e = record { within = omega (arith, h.within, l); read = d; last = omega (arith, h.last) }

@@ -2,7 +2,6 @@
 -- Assumes nothing.
 use Rattle.std.specs.Prelude.{ℕ, suc, ◌+◌, ◌-◌, ◌*◌, ◌%◌, ◌^◌, ◌≤◌, ◌<◌, true, List, ◌≡◌, length, get_or, take, drop}
 use Rattle.std.specs.Int.Bits.{bit_and, bit_xor}
-use Rattle.std.proofs.lemmas.List.Edits.{sets}
 use Rattle.definitions.specs.Lists.{all}
 use Rattle.definitions.specs.Words.{capitals, letter_of, is_letter_byte, spelled, word as word_of}
 use Rattle.definitions.specs.Vigemins.{keyed, scan}
@@ -72,10 +71,6 @@ roll_on s v byte = (v * 4 + letter_of byte) % 4 ^ s.m
 abbrev pub Rolled : Settings → ℕ → ℕ → ℕ → Type 0
 Rolled s word byte r = (v : ℕ) → word ≡ keyed_word s v → r ≡ keyed_word s (roll_on s v byte)
 
--- a word rolled on by a byte, whatever the settings of the table
-abbrev pub Rolls : List ℕ → ℕ → ℕ → ℕ → Type 0
-Rolls table word byte r = (s : Settings) → Tabled s table → Rolled s word byte r
-
 -- a sequence that a scan reads: k to 65,536 letters
 pub record Readable (s : Settings) (seq : List ℕ) : Type 0 where
   pub prepared : Prepared s
@@ -86,6 +81,11 @@ pub record Readable (s : Settings) (seq : List ℕ) : Type 0 where
 -- the scan of a sequence by some settings
 abbrev pub positions_of : Settings → List ℕ → List ℕ
 positions_of s seq = scan (keyed (word_of s.m s.key)) s.k s.m (spelled seq)
+
+-- a ring without stamps, with the top at its end
+pub record Fresh (width : ℕ) (ring : List ℕ) : Type 0 where
+  pub full : length ring ≡ 32
+  pub end : get_or ring width 0 ≡ top
 
 -- a ring with the stamps of the first n of the values from a place on, and the top at its end
 pub record Filled (side width : ℕ) (vs : List ℕ) (block n : ℕ) (ring : List ℕ) : Type 0 where
@@ -103,12 +103,6 @@ pub record Minima (side width : ℕ) (vs : List ℕ) (block at run : ℕ) (ring 
   pub stamps : (q : ℕ) → q < at → get_or ring q 0 ≡ get_or vs (block + width + q) 0 * side + q
   pub left : (q : ℕ) → at ≤ q → q ≤ width → get_or ring q 0 ≡ least_from top side vs q (block + q) (width - q)
 
--- a sequence with a window at a place, which a run begins with
-pub record Beginnable (s : Settings) (table seq : List ℕ) (from : ℕ) : Type 0 where
-  pub tabled : Tabled s table
-  pub readable : Readable s seq
-  pub inside : from + s.k ≤ length seq
-
 -- of the window at a place so many m-mers were read: the word of the letters read from there on, and the stamps in the ring
 pub record Begun (s : Settings) (seq : List ℕ) (from word at : ℕ) (ring : List ℕ) : Type 0 where
   pub within : at ≤ s.width
@@ -120,66 +114,20 @@ pub record Read (s : Settings) (seq : List ℕ) (block at : ℕ) (r : Run) (ring
   pub minima : Minima s.side s.width (values s.m s.key (spelled seq)) block at r.least ring
   pub word : r.word ≡ keyed_word s (rolled s.m (spelled seq) (block + at + s.k))
 
--- a window of each run was read, the right one so far behind the left one
-pub record ReadBoth (s : Settings) (seq : List ℕ) (from : ℕ) (r : Runs) (left right : List ℕ) : Type 0 where
-  pub one : Read s seq r.block r.at r.left left
-  pub other : Read s seq (r.block + from) r.at r.right right
-
--- two runs of some sequence
-pub record Turnable (s : Settings) (r : Runs) (left right : List ℕ) : Type 0 where
-  pub seq : List ℕ
-  pub from : ℕ
-  pub readable : Readable s seq
-  pub read : ReadBoth s seq from r left right
-
--- the same windows were read, whatever the sequence, and their blocks have m-mers left to be read after them
-pub record Turned (s : Settings) (r : Runs) (left right : List ℕ) (t : Runs) (new_left new_right : List ℕ) : Type 0 where
-  pub read : (seq : List ℕ) (from : ℕ) → Readable s seq → ReadBoth s seq from r left right → ReadBoth s seq from t new_left new_right
-  pub inside : t.at < s.width
-  pub same : t.block + t.at ≡ r.block + r.at
-
--- a run with m-mers left in its block, of a sequence with a letter left, which stands at a place
-pub record Steppable (s : Settings) (table : List ℕ) (at : ℕ) (r : Run) (seq : List ℕ) (place : ℕ) (ring : List ℕ) : Type 0 where
-  pub tabled : Tabled s table
-  pub readable : Readable s seq
+-- a window was read whose last letter stands before a place
+pub record ReadTo (s : Settings) (seq : List ℕ) (place at : ℕ) (r : Run) (ring : List ℕ) : Type 0 where
   pub block : ℕ
+  pub there : block + at + s.k ≡ place
   pub read : Read s seq block at r ring
-  pub inside : at < s.width
-  pub there : place ≡ block + at + s.k
-  pub more : place < length seq
 
--- the next window was read, whatever the block
-abbrev pub Stepped : Settings → ℕ → Run → List ℕ → ℕ → List ℕ → Run → List ℕ → Type 0
-Stepped s at r seq place ring t new = (block : ℕ) → place ≡ block + at + s.k → Read s seq block at r ring → Read s seq block (at + 1) t new
+-- a window of each run was read
+pub record ReadBoth (s : Settings) (seq : List ℕ) (r : Runs) (left right : List ℕ) : Type 0 where
+  pub one : Read s seq r.block r.at r.left left
+  pub other : Read s seq (r.block + r.from) r.at r.right right
 
--- a window of some sequence was read
-pub record Known (s : Settings) (block at least : ℕ) (ring : List ℕ) : Type 0 where
-  pub seq : List ℕ
-  pub readable : Readable s seq
-  pub minima : Minima s.side s.width (values s.m s.key (spelled seq)) block at least ring
-
--- the position of the vigemin of the window read, whatever the sequence
-abbrev pub Positioned : Settings → ℕ → ℕ → ℕ → List ℕ → ℕ → Type 0
-Positioned s block at least ring p =
-    (seq : List ℕ) → Readable s seq → Minima s.side s.width (values s.m s.key (spelled seq)) block at least ring → p ≡ get_or (positions_of s seq) (block + at) 0
-
--- each run has read its window i, of some sequence, and there is room for so many entries for each
-pub record Puttable (s : Settings) (r : Runs) (from i : ℕ) (left right : List ℕ) (each : ℕ) (room : List ℕ) : Type 0 where
-  pub seq : List ℕ
-  pub readable : Readable s seq
-  pub read : ReadBoth s seq from r left right
-  pub last : r.block + r.at ≡ i
-  pub fits : each * (from + i) + each ≤ length room
-
--- the entries for the positions of both windows were written, whatever the sequence
-abbrev pub PutBoth : Settings → Runs → ℕ → ℕ → List ℕ → List ℕ → ℕ → (ℕ → List ℕ) → List ℕ → List ℕ → Type 0
-PutBoth s r from i left right each entry room new =
-    (seq : List ℕ) → Readable s seq → ReadBoth s seq from r left right
-    → new ≡ sets (sets room (each * i) (entry (get_or (positions_of s seq) i 0))) (each * (from + i)) (entry (get_or (positions_of s seq) (from + i) 0))
-
--- a sequence with some windows, and room for so many entries for each
-pub record Writable (s : Settings) (seq : List ℕ) (windows each : ℕ) (room : List ℕ) : Type 0 where
+-- a sequence with some windows, and room of some length that has so many entries for each
+pub record Writable (s : Settings) (seq : List ℕ) (windows each room : ℕ) : Type 0 where
   pub readable : Readable s seq
   pub some : 0 < windows
   pub all : windows + s.k ≡ suc (length seq)
-  pub fits : each * windows ≤ length room
+  pub fits : each * windows ≤ room

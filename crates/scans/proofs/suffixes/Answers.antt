@@ -58,42 +58,14 @@ module _ (width : ℕ) (old : List ℕ) (given : Entries width old) where
   done : {ring : List ℕ} {least : ℕ} → From width old ring 0 least → Suffixes width old ring
   done f = record { full = f.full; least = λ q h. f.turned q (omega arith) h; others = λ q h. f.others q (inr h) }
 
-pub bounds-left-i : goal.bounds-left-i
-bounds-left-i c = omega (arith, c.requires.0.few)
-
-pub bounds-right-i : goal.bounds-right-i
-bounds-right-i c = omega (arith, c.requires.0.few)
-
 pub loop-i-init : goal.loop-i-init
 loop-i-init c =
     (begun c.args.width c.args.left.now c.requires.0, begun c.args.width c.args.right.now c.requires.1)
 
-pub bounds-left-i-in-loop-i : goal.bounds-left-i-in-loop-i
-bounds-left-i-in-loop-i c = omega (arith, c.loop-i.invariant.0.inside, c.requires.0.few)
-
-pub bounds-left-i-in-loop-i-2 : goal.bounds-left-i-in-loop-i-2
-bounds-left-i-in-loop-i-2 c = omega (arith, c.loop-i.invariant.0.inside, c.requires.0.few)
-
-pub bounds-right-i-in-loop-i : goal.bounds-right-i-in-loop-i
-bounds-right-i-in-loop-i c = omega (arith, c.loop-i.invariant.0.inside, c.requires.0.few)
-
-pub bounds-right-i-in-loop-i-2 : goal.bounds-right-i-in-loop-i-2
-bounds-right-i-in-loop-i-2 c = omega (arith, c.loop-i.invariant.0.inside, c.requires.0.few)
-
 pub loop-i-preserved : goal.loop-i-preserved
 loop-i-preserved c =
     let at = c.loop-i in
-    let width = c.args.width in
-    let next : suc (at.i - 1) ≡ at.i = omega (arith, c.loop-i-test.true) in (
-      more width c.args.left.now c.requires.0 next at.invariant.0 c.lesser-least.ensures,
-      more width c.args.right.now c.requires.1 next at.invariant.1 c.lesser-other.ensures,
+    let next : suc (at.i - 1) ≡ at.i = omega arith in (
+      more c.args.width c.args.left.now c.requires.0 next at.invariant.0 c.min-least.ensures,
+      more c.args.width c.args.right.now c.requires.1 next at.invariant.1 c.min-other.ensures,
     )
-
-pub returns : goal.returns
-returns c =
-    let at = c.loop-i in
-    let end : at.i ≡ 0 = omega arith in
-    record {
-      left = done c.args.width c.args.left.now c.requires.0 (rw end at at.invariant.0);
-      right = done c.args.width c.args.right.now c.requires.1 (rw end at at.invariant.1);
-    }

@@ -1,5 +1,5 @@
 -- `scans::suffixes` meets its contract. The loop's invariant: from i on, each entry of a ring is the least of those from its place on, and the
--- others are as they were. The measure is i.
+-- others are as they were.
 -- Assumes nothing.
 use Prim.Native.Nat.{ℕ, ◌-◌, ◌≤◌, ◌<◌}
 use mathlib.Core.List.{List}
@@ -20,6 +20,3 @@ pub record From (width : ℕ) (old ring : List ℕ) (i least : ℕ) : Type 0 whe
 
 abbrev pub invariant-loop-i : goal.invariant-loop-i
 invariant-loop-i l = From l.width l.initial.left l.left l.i l.least × From l.width l.initial.right l.right l.i l.other
-
-abbrev pub decreases-loop-i : goal.decreases-loop-i
-decreases-loop-i l = l.i
