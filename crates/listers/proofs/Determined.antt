@@ -1,12 +1,10 @@
 -- The contracts of `listers` take every input, and determine their outcomes: any two that one allows are equal.
 -- Assumes nothing.
-use Rattle.std.proofs.Common.{ℕ, zero, suc, List, [], Result, Ok, Err, ◌++◌, ◌≡◌, refl, sym, ap, ◌∙◌}
-use Rattle.definitions.specs.Words.{Word, word as word_of}
-use Rattle.definitions.specs.Vigemins.{Form, keyed}
-use Rattle.definitions.specs.Shelves.{size}
+use Rattle.std.proofs.Common.{ℕ, zero, suc, List, ◌≡◌, refl, sym, ap, ◌∙◌}
+use Rattle.definitions.specs.Words.{Word}
+use Rattle.definitions.specs.Vigemins.{Form}
 use Rattle.definitions.specs.Refusals.{refusal}
 use Rattle.laws.specs.Promises.{TakesAll, Determines}
-use Rattle.refusals.specs.declared.Refusal.{Refusal}
 use Rattle.refusals.specs.Numbers.{same-placeless}
 use Rattle.listers.specs.Answers.{Listed, list_grounds, list_answer, list_outcome, listed, listed-refusal, listed-room}
 use Rattle.listers.proofs.list.Kinds as list-kinds

@@ -1,6 +1,6 @@
 -- `listers::list_pages` meets its contract: no page is refused, and each writes some.
 -- Assumes nothing.
-use Rattle.std.proofs.Common.{◌+◌, ◌-◌, ◌≤◌, ◌<◌, ◌≡◌, arith, length, min}
+use Rattle.std.proofs.Common.{◌+◌, ◌≤◌, ◌<◌, arith}
 use Rattle.refusals.specs.Numbers.{number-some}
 use Rattle.listers.proofs.Rows.{taking-some, taking-more, taking-served}
 use Rattle.listers.proofs.list_pages.Goals as goal
