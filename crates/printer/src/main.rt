@@ -39,8 +39,6 @@ fn main(rt: HostRuntime) -> io::Result<()> {
         Err(e) => (b"".as_slice(), Err(e)),
     };
     let card = cards::card(input);
-    let length = card.length;
-    let text = card.text;
-    rt.stdout().write_all(&text[..length])?;
+    rt.stdout().write_all(&card.text[..card.length])?;
     end
 }
