@@ -170,7 +170,7 @@ impl Descent<'_> {
     ghost use Rattle.shelves.specs.Going.{Reached, below};
 
     // The k-mers under a beginning from place `skip` on, where they are written at once: where every word completes it, and where just the rest of the
-    // word does.
+    // word does. Elsewhere none.
     fn at_once(&self, at: Beginning, skip: u64) -> Option<Stretch>
         requires { Reached self.now at skip }
         ensures { MatchOption result (0 < at.left) (λ s. AtOnce (below self.now at) skip s.first s.count) }
@@ -204,14 +204,13 @@ impl Descent<'_> {
         if let Some(numbers) = self.at_once(at, skip) {
             return run(numbers, room);
         }
+        let acceptor = self.acceptor;
         let mut passed = skip;
         let mut written: usize = 0;
         for letter in 0..4 {
-            let under = self
-                .acceptor
-                .ways_under(at.left, at.state, letter, self.ways);
+            let under = acceptor.ways_under(at.left, at.state, letter, self.ways);
             if passed < under {
-                let next = self.acceptor.longer(at, letter);
+                let next = acceptor.longer(at, letter);
                 let behind = &mut room[written..];
                 written += self.fill(next, passed, behind);
                 passed = 0;
