@@ -22,10 +22,12 @@ const TOP: u64 = u64::MAX;
 
 // What room is made of: so many entries in a row stand for a position.
 trait Entry: Copy {
+    // How many.
     const EACH: u64;
 
     ghost EACH: { ℕ };
 
+    // Which.
     ghost entries: { ℕ → List Self };
 
     // Writes the entries for the position of window i behind those for the windows before it.
@@ -34,6 +36,7 @@ trait Entry: Copy {
         requires fits { EACH * i + EACH ≤ length room.old }
         ensures { room.new ≡ sets room.old (EACH * i) (entries position) };
 
+    // They are some, and for each position as many.
     ghost some: { 0 < EACH };
 
     ghost even: { (p : ℕ) → length (entries p) ≡ EACH };
@@ -246,17 +249,17 @@ impl<'a> Reading<'a> {
         if r.at == self.settings.width {
             suffixes(self.settings.width, left, right);
             return Runs {
-                from: r.from,
                 block: r.block + self.settings.width,
                 at: 0,
                 left: Run {
-                    word: r.left.word,
                     least: TOP,
+                    ..r.left
                 },
                 right: Run {
-                    word: r.right.word,
                     least: TOP,
+                    ..r.right
                 },
+                ..r
             };
         }
         r
@@ -292,11 +295,10 @@ impl<'a> Reading<'a> {
         let one = self.step(place, t.at, t.left, left);
         let other = self.step(place + t.from, t.at, t.right, right);
         Runs {
-            from: t.from,
-            block: t.block,
             at: t.at + 1,
             left: one,
             right: other,
+            ..t
         }
     }
 
