@@ -1,4 +1,4 @@
 -- What the contracts of the foreign forms speak of, beside `definitions`.
 --
--- Answers       what the foreign scan answered, as an outcome
+-- Answers       what the foreign forms answered: one number, and of the scan an outcome
 pub mod Answers
