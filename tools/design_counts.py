@@ -83,14 +83,14 @@ told("a comparison with a byte string by as_slice", lines(r"\.as_slice\(\)"))
 print("5. Facts of three contracts or more, parameters that travel together")
 facts = []
 for crate in sorted({p.parts[len(folder.parts) + 1] for p in sources}):
-    count = defaultdict(int)
+    count = defaultdict(set)
     for path, text in sources.items():
         if path.parts[len(folder.parts) + 1] == crate:
-            for clause in re.findall(r"^\s*(?:requires|ensures)(?: \w+)? \{(.*)\}$", text, re.M):
-                for fact in set(re.findall(r"\b[A-Z][A-Za-z]{3,}\b", clause)):
-                    count[fact] += 1
-    facts += [f"{crate}: {fact}, {n} contracts" for fact, n in sorted(count.items()) if n >= 3 and fact not in ("List",)]
-told("a fact that stands in three clauses of a crate or more", facts)
+            for m in re.finditer(r"\bfn (\w+)[^{}]*?\n((?:\s*(?:requires|ensures)[^\n]*\n)+)", text):
+                for fact in set(re.findall(r"\b[A-Z][A-Za-z]{3,}\b", m.group(2))) - {"List"}:
+                    count[fact].add(m.group(1))
+    facts += [f"{crate}: {fact}, {len(f)} functions: {', '.join(sorted(f))}" for fact, f in sorted(count.items()) if len(f) >= 3]
+told("a fact that stands in the contracts of three functions of a crate or more", facts)
 triples = []
 for path in sources:
     count = defaultdict(set)

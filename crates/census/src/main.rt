@@ -70,6 +70,7 @@ fn key_count(words: u64) -> u64
 
 // The n-th key that is tried: where not all are, the first, the last, ATAT.., which is a fifth of the words, AT..T, the last that begins with A, and
 // drawn ones.
+// By hand: a match, since a list of keys would draw them all before the first is tried, and each is drawn by the state of its turn.
 fn nth_key(n: u64, words: u64, generator: Generator) -> u64
     requires { 4 ≤ words }
 {

@@ -130,6 +130,7 @@ impl Setting {
     }
 
     // The antemers of length n that share at least i letters with the word: those that share i, one more, and so on.
+    // By hand: that n letters are served is asked by each function, since n falls from call to call, and belongs to no value.
     #[cycle(all_prefixes_one_prefix)]
     fn all_prefixes(self, i: u64, n: u64) -> u64
         requires { Served self.m n }

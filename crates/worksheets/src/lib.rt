@@ -221,6 +221,7 @@ fn leads_to(left: u8, ban: u8, next: u8) -> u8
 }
 
 // The ways on by one letter, read in the part of the ways from `done` on: where that begins is then computed once for a row.
+// By hand: a row is done, its letters and the ways apart, since a row is written into the ways that its sums are read from.
 fn way(c: usize, done: u64, allowed: &[u8; 128], ways: &[u64; 64]) -> u64
     requires { WayReady c done allowed.now ways.now }
     ensures { result ≡ way_of c done allowed.now ways.now }
