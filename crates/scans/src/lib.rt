@@ -161,6 +161,7 @@ struct Run {
 // Two runs of windows that are read side by side, so that one goes on while the other waits for its last minimum; the right one begins with the window
 // `from`. The m-mers of each go by blocks of a window's width. The left run's block starts at `block`, the right run's at `block + from`, and both windows
 // begin `at` behind the start of theirs.
+// By hand: the rings are lent beside it. A step makes the runs anew, as a value, and writes into a ring, as room: one record of both hides which is which.
 #[derive(Clone, Copy)]
 struct Runs {
     from: u64,
