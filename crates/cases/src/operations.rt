@@ -3,6 +3,7 @@
 use crate::columns::Case;
 use refusals::Refusal;
 use std::iter;
+use worksheets::Sheet;
 
 // Whether the case of an operation holds. No other operation does.
 pub fn holds(operation: &[u8], case: &Case<'_>) -> bool {
@@ -96,13 +97,17 @@ fn antemers(case: &Case<'_>) -> bool {
 // The worksheet: the refusal, and rows 0 and 1 of the antemers and of the postmers; all other rows hold 0 twice.
 fn worksheet(case: &Case<'_>) -> bool {
     let got = worksheets::worksheet(case.k, case.m, case.key, case.word);
-    let (refusal, antemers, postmers) = match got {
-        Ok(sheet) => (0, sheet.antemers, sheet.postmers),
-        Err(refusal) => (refusal.number(), [0; 31], [0; 31]),
+    let (refusal, sheet) = match got {
+        Ok(sheet) => (0, sheet),
+        Err(refusal) => {
+            let antemers = [0; 31];
+            let postmers = [0; 31];
+            (refusal.number(), Sheet { antemers, postmers })
+        }
     };
     let ante = [case.first, case.second].into_iter().chain(iter::repeat(0));
     let post = case.after.into_iter().take(2).chain(iter::repeat(0));
-    (refusal == case.refusal) & room_has(&antemers, ante) & room_has(&postmers, post)
+    (refusal == case.refusal) & room_has(&sheet.antemers, ante) & room_has(&sheet.postmers, post)
 }
 
 // A page: the refusal, how many k-mers are written, and the room of five after.

@@ -5,9 +5,7 @@ use std::rt::Files;
 // Whether the card of an input has this text.
 fn prints(input: &[u8], expected: &[u8]) -> bool {
     let card = cards::card(input);
-    let n = card.length;
-    let text = card.text;
-    &text[..n] == expected
+    &card.text[..card.length] == expected
 }
 
 // What a file has that is named by bytes, which must be text; none where it cannot be read.
