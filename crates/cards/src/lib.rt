@@ -16,7 +16,7 @@ use std::marker::Model;
 // ---- the text that is written, part by part
 
 // A text of at most 664 bytes, at the front of as many, with zeros behind it.
-// By hand: a `String` allocates, and a library crate has no heap.
+// By hand: a library crate has no heap for a `String`, and a crate of the kit for fixed text would be one more to trust.
 #[derive(Drop)]
 struct Text {
     bytes: [u8; 664],
@@ -54,7 +54,7 @@ impl Text {
     }
 
     // Writes a number in decimal: its tenth part, if it has one, and the last digit.
-    // By hand: what `write!` ensures holds only where it answers Ok, which no clause of the kit promises, and a card always has its text.
+    // By hand: no clause of `write!` promises Ok, and a card always has its text; a crate of the kit for decimals would be one more to trust.
     fn decimal(&mut self, number: u64)
         requires { length self.old + 20 ≤ 664 }
         ensures text { self.new ≡ self.old ++ decimal_text number }

@@ -39,6 +39,7 @@ where
 }
 
 // What an operation answered, as the columns have it: the refusal and the number, zeros for what there is not.
+// By hand: the columns of a case are numbers.
 fn told(answered: Result<u64, Refusal>) -> (u64, u64) {
     match answered {
         Ok(number) => (0, number),

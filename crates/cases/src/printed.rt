@@ -8,15 +8,13 @@ fn prints(input: &[u8], expected: &[u8]) -> bool {
     &card.text[..card.length] == expected
 }
 
-// What a file has that is named by bytes, which must be text; none where it cannot be read.
-fn file<R: Files + Alloc>(rt: &R, path: &[u8]) -> Option<Vec<u8, R::A>> {
-    fs::read(rt, str::from_utf8(path).ok()?).ok()
-}
-
-// Whether both files can be read, and the second has the card of the first.
+// Whether both files can be read, and the second has the card of the first. They are named by bytes, which must be text.
 pub fn printer(rt: &(impl Files + Alloc), input: &[u8], expected: &[u8]) -> bool {
-    match (file(rt, input), file(rt, expected)) {
-        (Some(input), Some(expected)) => prints(&input, &expected),
+    let (Ok(input), Ok(expected)) = (str::from_utf8(input), str::from_utf8(expected)) else {
+        return false;
+    };
+    match (fs::read(rt, input), fs::read(rt, expected)) {
+        (Ok(input), Ok(expected)) => prints(&input, &expected),
         _ => false,
     }
 }

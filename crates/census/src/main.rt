@@ -15,7 +15,7 @@ const MOST_LETTERS: u64 = 8;
 const MOST: usize = 65536;
 
 // 4^n, for n from 1 to 8.
-// By hand: the census counts on its own, by no table of the library; and a shift would ask a bound of n at each call, which the last arm makes needless.
+// By hand: the census counts on its own, by no table of the library, and 4^n as a shift would ask at each call that n is small.
 fn power(n: u64) -> u64
     ensures { (4 ≤ result) × (result ≤ 65536) }
 {

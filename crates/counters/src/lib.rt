@@ -46,6 +46,7 @@ impl Setting {
     }
 
     // The sign of a letter against ai, both combined with ci: above where it lies in the special alphabet Σi, equal where it is ai.
+    // By hand: a letter is asked to be below 4 and i within the word by each function: both are numbers that are counted up, and a type would be made of each at each turn.
     fn letter_sign(self, i: u64, letter: u64) -> Ordering
         requires { (0 < i) × (i ≤ self.m) × (letter < 4) }
         ensures special { is_gt result ≡ Σ (ranking self) (own_word self) i letter }
@@ -82,6 +83,7 @@ impl Setting {
     }
 
     // Whether a letter may not follow i shared ones, by j: R(i,j) is equal, and the letter neither lies in Σ(i-j+2) nor is a(i-j+2).
+    // By hand: `hinders` and `ties` are two, as document 01 has two tests of which one restrains a letter and the other gives T.
     fn hinders(self, i: u64, j: u64, letter: u64) -> bool
         requires { (2 ≤ j) × (j ≤ i + 1) × (i < self.m) × (letter < 4) }
         ensures { result ≡ is_hindered (ranking self) (own_word self) i j letter }

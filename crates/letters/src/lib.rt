@@ -25,6 +25,7 @@ pub fn letter(byte: u8) -> Option<u64>
 }
 
 // Whether every byte is a letter. It goes through to the end, so that several bytes can be tested at once.
+// By hand: `all` stops at a byte, and so tests one at a time.
 fn all_letters(text: &[u8]) -> bool
     ensures { result ≡ all is_letter_byte text.now }
 {

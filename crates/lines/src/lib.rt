@@ -15,7 +15,7 @@ fn find(byte: u8, text: &[u8]) -> Option<usize>
 }
 
 // The parts of a text before and behind the first such byte.
-// By hand: a slice has no `split_once`.
+// By hand: a slice has no `split_once`, and `splitn` gives two parts or one: whoever takes both would ask again whether there are two.
 fn cut(byte: u8, text: &[u8]) -> Option<(&[u8], &[u8])>
     ensures { MatchOption result (IsUncut byte text.now) (λ parts. IsCut byte text.now parts.0.now parts.1.now) }
 {

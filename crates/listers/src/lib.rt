@@ -25,7 +25,7 @@ fn list_pages(
     ensures filled { room.new ≡ over (map val (shelf (keyed (word_of m key)) k (word_of m word))) room.old }
 {
     let mut at: u64 = 0;
-    // By hand: a page starts where the last one stopped, which its answer tells; `chunks_mut` asks that `each` is not 0, and of an empty shelf it may be.
+    // By hand: a page starts where the last one stopped, which its answer tells; parts cut beforehand by `chunks_mut` ask that `each` is not 0, and that a page fills its part.
     while at < size {
         let end = at + each.min(room.len() as u64 - at);
         at += shelves::page(k, m, key, word, at, &mut room[at as usize..end as usize])?;

@@ -18,7 +18,7 @@ fn skip_rest(input: &mut Stdin) -> io::Result<()> {
 
 // Reads to the end of the input, and answers what of it stands in the room. A well-formed line has at most 67 bytes, so what fills the room is refused
 // however it goes on.
-// By hand: a `Vec` that `read_to_end` fills takes a heap, which this program has not; and `io::copy` tries an interrupted read again, as above.
+// By hand: a `Vec` that `read_to_end` fills takes a heap, which adds to what README says this program assumes; and `io::copy` tries an interrupted read again, as above.
 fn read_all<'a>(input: &mut Stdin, room: &'a mut [u8; 128]) -> io::Result<&'a [u8]> {
     let mut n = 0;
     while n < room.len() {

@@ -33,6 +33,7 @@ pub enum Refusal {
 
 impl Refusal {
     // The number of a refusal.
+    // By hand: document 01 numbers the refusals.
     pub fn number(self) -> u64
         ensures { result ≡ number_of self }
     {
@@ -51,6 +52,7 @@ impl Refusal {
     }
 
     // The place of a bad letter; 0 beside any other refusal.
+    // By hand: where document 01 has no place it has a zero.
     pub fn place(self) -> u64
         ensures { result ≡ place_of self }
     {

@@ -72,7 +72,7 @@ impl Entry for u8 {
     ghost even = { Prim.search rules };
 
     fn put(position: u64, i: u64, room: &mut [u8]) {
-        // By hand: with `to_be_bytes` and `copy_from_slice` a scan takes 2.58 ns a letter and not 2.45, and at m = k 2.32 and not 2.18.
+        // By hand: with `to_be_bytes` and `copy_from_slice` a scan takes 1.152 times the tuned scan, and not 1.09; 1.15 is asked (docs/SPEED.md).
         let place = (4 * i) as usize;
         room[place] = (position / 16777216 % 256) as u8;
         room[place + 1] = (position / 65536 % 256) as u8;

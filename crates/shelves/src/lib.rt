@@ -19,7 +19,7 @@ use refusals::Refusal;
 use states::States;
 
 // What is added to a state where the word was met.
-// By hand: a state and whether the word was met are one index of the tables.
+// By hand: whether the word was met is one bit more of the state, so that one index finds a move, and a row of the ways.
 const MET: u8 = 32;
 
 // Where a letter leads, by its next state: the word is met where that is m.
@@ -79,6 +79,7 @@ impl Acceptor {
     }
 
     // The ways from a state, by any letter.
+    // By hand: four terms, since of a `sum` over a range no clause tells the terms.
     fn ways_on(&self, left: u64, state: u64, ways: &[u64; 2048]) -> u64
         requires { Ready self.now left state ways.now }
         ensures { result ≡ ways_from self.now state left }
@@ -102,6 +103,7 @@ impl Acceptor {
     }
 
     // Writes the table of ways, for up to k letters left.
+    // By hand: one flat table, of which a row is a part.
     fn ways_table(&self, k: u64, ways: &mut [u64; 2048])
         requires { (k ≤ 31) × (length ways.old ≡ 2048) }
         ensures { WaysTo self.now (suc k) ways.new }
@@ -136,6 +138,7 @@ fn ways_end(ways: &mut [u64; 2048])
 }
 
 // Numbers that follow one another: the first, how many.
+// By hand: how many there are is asked of it, which a `Range` would give by a subtraction.
 #[derive(Clone, Copy)]
 struct Stretch {
     first: u64,

@@ -28,6 +28,7 @@ use std::cmp::Ordering;
 pub const NEVER: u8 = 64;
 
 // A row of a table: one entry for each letter.
+// By hand: a field for each letter. With an array and a closure the goal `loop-p-preserved` of `special_alphabets` stays open.
 #[derive(Clone, Copy)]
 struct Four<E> {
     a: E,
@@ -65,7 +66,7 @@ impl<E: Copy> Four<E> {
 }
 
 // The states of a word: the special alphabets, the next states and the bans.
-// By hand: four arrays and no array of rows, since each table is read and lent alone.
+// By hand: four flat arrays and no array of rows, since each is lent and gone through alone, and a part of it is a row.
 #[derive(Clone, Copy)]
 pub struct States {
     pub own: [u8; 32],

@@ -9,6 +9,7 @@ ghost use Rattle.tukinraso.specs.Answers.{code, foreign_scanned};
 use refusals::Refusal;
 
 // The one number that a foreign form answers: the answer or, refused, 2^63 plus 65,536 times the refusal plus the place of a bad letter.
+// By hand: the foreign forms answer one number, as document 01 has it for C.
 fn coded(answer: Result<u64, Refusal>) -> u64
     requires { place_in answer < 65536 }
     ensures { result ≡ code answer }
