@@ -105,6 +105,7 @@ impl fmt::Display for Settings {
 }
 
 // A word of at most 8 letters, and its position in a k-mer.
+// By hand: the census counts on its own, so what it finds is not told in the library's `vigemins::Found`.
 #[derive(Clone, Copy)]
 struct Mer {
     word: u64,
@@ -279,7 +280,7 @@ impl<R: Print> Comparison<'_, R> {
     fn pages(&self, word: u64, shelf: &[u64], room: &mut [u64]) -> Result<u64, Differs> {
         let mut left = shelf;
         let mut pages = 0;
-        // By hand: the last page is compared too, and only then is seen to be one that writes none.
+        // By hand: `chunks` takes no length 0, and gives no empty page behind the last, which is asked for here too.
         loop {
             let (due, rest) = left.split_at(left.len().min(room.len()));
             self.page(word, shelf.len() - left.len(), due, room)?;
