@@ -79,7 +79,7 @@ impl Acceptor {
     }
 
     // The ways from a state, by any letter.
-    // By hand: four terms, since of a `sum` over a range no clause tells the terms.
+    // By hand: four terms. Of a `sum` over a range the goals `sum-requires-clause-fits` and `returns` stay open.
     fn ways_on(&self, left: u64, state: u64, ways: &[u64; 2048]) -> u64
         requires { Ready self.now left state ways.now }
         ensures { result ≡ ways_from self.now state left }

@@ -232,7 +232,7 @@ fn way(c: usize, done: u64, allowed: &[u8; 128], ways: &[u64; 64]) -> u64
 }
 
 // The ways on from a state, by any letter.
-// By hand: four terms, since of a `sum` over a range no clause tells the terms.
+// By hand: four terms. Of a `sum` over a range the goals `sum-requires-clause-fits` and `returns` stay open.
 fn ways_on(i: u64, done: u64, allowed: &[u8; 128], ways: &[u64; 64]) -> u64
     requires { SumReady i done allowed.now ways.now }
     ensures { result ≡ sum_of i done allowed.now ways.now }
