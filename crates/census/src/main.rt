@@ -181,7 +181,7 @@ fn rooms(size: usize) -> [usize; 4]
 }
 
 // What no word and no k-mer of at most 8 letters is.
-// By hand: `shelves::page` writes into a room of numbers, so that an entry was left alone shows by a number only.
+// By hand: document 01's page writes numbers into its room, so a number that is no k-mer marks an entry that was left alone.
 const BLANK: u64 = 65536;
 
 // ---- what is compared under one key

@@ -46,7 +46,7 @@ impl Setting {
     }
 
     // The sign of a letter against ai, both combined with ci: above where it lies in the special alphabet Σi, equal where it is ai.
-    // By hand: a letter is asked to be below 4 and i within the word by each function: both are numbers that are counted up, and a type would be made of each at each turn.
+    // By hand: that a letter is below 4 and i within the word is asked by each function that takes one: both are numbers that are counted up, and a type would be made of each at each turn.
     fn letter_sign(self, i: u64, letter: u64) -> Ordering
         requires { (0 < i) × (i ≤ self.m) × (letter < 4) }
         ensures special { is_gt result ≡ Σ (ranking self) (own_word self) i letter }
@@ -109,7 +109,7 @@ impl Setting {
     }
 
     // T: the least j from 2 to i + 1 that ties the letter; i + 2 where there is none.
-    // By hand: with i + 2 for none, i + 2 - T letters are shared again in every case.
+    // By hand: where no j ties, T is i + 2, so that i + 2 - T, the letters shared again, is 0 without a case of its own.
     fn least_tied(self, i: u64, letter: u64) -> u64
         requires { (i < self.m) × (letter < 4) }
         ensures { result ≡ T (ranking self) (own_word self) (λ j. true) i letter }
@@ -132,7 +132,7 @@ impl Setting {
     }
 
     // The antemers of length n that share at least i letters with the word: those that share i, one more, and so on.
-    // By hand: that n letters are served is asked by each function, since n falls from call to call, and belongs to no value.
+    // By hand: `Served`, that n is at most 10 and m + n at most 31, is asked by each function: n falls from call to call, and is a field of nothing.
     #[cycle(all_prefixes_one_prefix)]
     fn all_prefixes(self, i: u64, n: u64) -> u64
         requires { Served self.m n }

@@ -25,7 +25,7 @@ pub fn letter(byte: u8) -> Option<u64>
 }
 
 // Whether every byte is a letter. It goes through to the end, so that several bytes can be tested at once.
-// By hand: `all` stops at a byte, and so takes 0.65 ns a letter and not 0.06: a scan would miss its bar of 1.15 times the tuned one.
+// By hand: `all` stops at a byte, and so takes 0.65 ns a letter and not 0.06: a scan would take 1.27 times the tuned scan in one run, and at most 1.15 is asked.
 fn all_letters(text: &[u8]) -> bool
     ensures { result ≡ all is_letter_byte text.now }
 {

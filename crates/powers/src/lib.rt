@@ -70,7 +70,7 @@ pub fn power(n: u64) -> u64
 }
 
 // The lesser of two numbers.
-// By hand: a name for `min`, which docs/OUTCOMES.md gives with its contract; the crates here write `min`.
+// By hand: a public function, whose name and contract may not change; it is `min`, which the crates here write.
 pub fn lesser(a: u64, b: u64) -> u64
     ensures { result ≡ min a b }
 {
@@ -78,7 +78,7 @@ pub fn lesser(a: u64, b: u64) -> u64
 }
 
 // How one number stands against another.
-// By hand: a name for `cmp`, whose contract says it in document 01's signs.
+// By hand: a public function, whose name and contract may not change; it is `cmp`.
 pub fn sign(x: u64, y: u64) -> Ordering
     ensures { result ≡ signed (sign_of x y) }
 {
@@ -96,7 +96,7 @@ pub fn too_large(n: u64, word: u64) -> bool
 }
 
 // Refuses what every keyed operation refuses: 1, 2 or 3.
-// By hand: k, m and the key, and a word beside them, come to every operation as plain numbers, as document 01 calls it, and go on so to what it calls.
+// By hand: k, m, the key and a word come to every operation as plain numbers, as document 01 has them, and are handed on as they came.
 pub fn order_refusal(k: u64, m: u64, key: u64) -> Result<(), Refusal>
     ensures { refusal_in result ≡ refusal (order_grounds k m (bad_key m key)) }
 {

@@ -72,7 +72,7 @@ impl Entry for u8 {
     ghost even = { Prim.search rules };
 
     fn put(position: u64, i: u64, room: &mut [u8]) {
-        // By hand: with `to_be_bytes` and `copy_from_slice` a scan takes 1.152 times the tuned scan, and not 1.09; 1.15 is asked (docs/SPEED.md).
+        // By hand: with `to_be_bytes` and `copy_from_slice` a scan takes 1.152 times the tuned scan in one run (2.58 ns a letter to 2.24), and so 1.09; at most 1.15 is asked.
         let place = (4 * i) as usize;
         room[place] = (position / 16777216 % 256) as u8;
         room[place + 1] = (position / 65536 % 256) as u8;
@@ -161,7 +161,7 @@ struct Run {
 // Two runs of windows that are read side by side, so that one goes on while the other waits for its last minimum; the right one begins with the window
 // `from`. The m-mers of each go by blocks of a window's width. The left run's block starts at `block`, the right run's at `block + from`, and both windows
 // begin `at` behind the start of theirs.
-// By hand: the rings are lent beside it. A step makes the runs anew, as a value, and writes into a ring, as room: one record of both hides which is which.
+// By hand: the rings are lent beside it. The runs are answered as a new value, and the rings are written in place; in one record a reader could not tell which.
 #[derive(Clone, Copy)]
 struct Runs {
     from: u64,

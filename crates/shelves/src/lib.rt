@@ -19,7 +19,7 @@ use refusals::Refusal;
 use states::States;
 
 // What is added to a state where the word was met.
-// By hand: whether the word was met is one bit more of the state, so that one index finds a move, and a row of the ways.
+// By hand: whether the word was met is one bit more of the state, so that one number finds the row of moves and the place in a row of the ways.
 const MET: u8 = 32;
 
 // Where a letter leads, by its next state: the word is met where that is m.
@@ -103,7 +103,7 @@ impl Acceptor {
     }
 
     // Writes the table of ways, for up to k letters left.
-    // By hand: one flat table, of which a row is a part.
+    // By hand: one flat table, as the states' are: one index, 64 * left + state, finds an entry.
     fn ways_table(&self, k: u64, ways: &mut [u64; 2048])
         requires { (k ≤ 31) × (length ways.old ≡ 2048) }
         ensures { WaysTo self.now (suc k) ways.new }

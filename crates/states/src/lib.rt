@@ -24,7 +24,7 @@ use refusals::Refusal;
 use std::cmp::Ordering;
 
 // More letters than are ever left.
-// By hand: a number and no Option, since what is left is below it, so that no test has a case for a letter that is never banned.
+// By hand: a number and no Option: what is left is always below it, so that `left < ban` alone tells whether a letter is allowed.
 pub const NEVER: u8 = 64;
 
 // A row of a table: one entry for each letter.

@@ -103,7 +103,7 @@ impl<'s> Source<'s> {
     }
 
     // Writes, over zeros, for each state below `live` the ways to end an antemer there, 1 or 0; the others have none.
-    // By hand: they are written into lent room; an array by value is copied, and the size takes 2 to 3 in 100 longer.
+    // By hand: an array by value is copied, which costs 2 to 3 in 100 of a size, and is no plainer.
     fn ends(&self, live: u64, ends: &mut [u64; 64])
         requires in_range { (0 < live) × (live ≤ self.now.m) }
         requires zeros { ends.old ≡ tabulate (λ i. 0) 64 }
@@ -222,7 +222,7 @@ fn leads_to(left: u8, ban: u8, next: u8) -> u8
 }
 
 // The ways on by one letter, read in the part of the ways from `done` on: where that begins is then computed once for a row.
-// By hand: how many rows are done and which letters are allowed change from row to row while the ways stay: a record of them would be made for each row.
+// By hand: how many rows are done and the allowed letters are new for each row, and the ways are written between: a record of the three would be made anew each time.
 fn way(c: usize, done: u64, allowed: &[u8; 128], ways: &[u64; 64]) -> u64
     requires { WayReady c done allowed.now ways.now }
     ensures { result ≡ way_of c done allowed.now ways.now }
