@@ -7,7 +7,7 @@ use Rattle.definitions.specs.Words.{Word}
 use Rattle.laws.specs.Numbers.{letter-lt}
 use Rattle.laws.specs.Orders.{Ranking}
 use Rattle.laws.specs.States.{next}
-use Rattle.laws.specs.Bans.{ban, low_by, ban-own}
+use Rattle.laws.specs.Bans.{never, ban, low_by, ban-le, ban-own}
 use Rattle.states.specs.declared.States.{States}
 use Rattle.states.specs.Grids.{grid-entry}
 use Rattle.states.specs.Tables.{Known, mark_of, mark_at, own_at, own-lt, next-entry, ban-entry}
@@ -58,6 +58,10 @@ module _ {ρ : Ranking} {w : Word} {m : ℕ} {s : States} (t : StatesOf ρ w m s
     own-ban e =
         own-entry s.ban j j 0 (omega (arith, t.alphabets.word.few)) e
         ∙ ban-entry t.alphabets.word ρ t.links.bans j (get_or w j 0) (omega arith) (letter-lt w j t.alphabets.word.letters)
+
+    -- it is never more than never
+    pub own-never : ban w (low_by ρ w) j (get_or w j 0) ≤ never
+    own-never = ban-le w (low_by ρ w) j (get_or w j 0) (omega (arith, t.alphabets.word.long, t.alphabets.word.few))
 
     -- they are more than the rest of w
     pub own-later : m < ban w (low_by ρ w) j (get_or w j 0) + j

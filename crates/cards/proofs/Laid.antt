@@ -1,0 +1,45 @@
+-- Texts that are laid in a lent room, one behind the other in the part of it that is left: laws for whoever lends room and not a text.
+-- Assumes nothing.
+use Prim.Native.Nat.{ℕ, ◌+◌, ◌-◌, ◌≤◌}
+use mathlib.Core.List.{List, ◌++◌, append-nil, append_assoc}
+use mathlib.Core.Path.{◌≡◌, sym, ap, ap₂, ◌∙◌}
+use native.Mathlib.Omega.{arith}
+use lib.ListN.{length, take, drop, length-append, length-drop}
+use Rattle.definitions.specs.Lists.{over}
+use Rattle.laws.specs.Rooms.{over-append, length_over, rest-whole}
+
+-- a text was written at the front of a room, and so many bytes were told
+pub record Laid (t : List ℕ) (told : ℕ) (old room : List ℕ) : Type 0 where
+  pub long : told ≡ length t
+  pub fits : length t ≤ length old
+  pub front : room ≡ over t old
+
+-- the room keeps its length
+pub laid-length : {t : List ℕ} {n : ℕ} {old room : List ℕ} → Laid t n old room → length room ≡ length old
+laid-length {t} {n} {old} l = rw l.front (length_over t old l.fits)
+
+-- a text is laid behind another, in the part of the room that is left
+pub laid_next : {u v : List ℕ} {a b : ℕ} {old mid part : List ℕ} → Laid u a old mid → Laid v b (take (length mid - a) (drop a mid)) part
+    → Laid (u ++ v) (a + b) old (take a mid ++ (part ++ drop (length mid - a) (drop a mid)))
+laid_next {u} {v} {a} {b} {old} {mid} {part} l r =
+    let left = (rest-whole a mid).0 in
+    let none = (rest-whole a mid).1 in
+    let fits : length v ≤ length mid - a = rw (left, length-drop) at r.fits in
+    let whole : over (u ++ v) old ≡ take a mid ++ over v (drop a mid) = over-append u v old ∙ ap₂ (λ (n : ℕ) (m : List ℕ). take n m ++ over v (drop n m)) (sym l.long) (sym l.front) in
+    record {
+      long = rw length-append (omega (arith, l.long, r.long));
+      fits = rw length-append (omega (arith, l.long, l.fits, laid-length l));
+      front = rw (none, append-nil, r.front, left) (sym whole);
+    }
+
+-- how much room is left
+pub laid-left : {t : List ℕ} {n : ℕ} {old room : List ℕ} → Laid t n old room → length (take (length room - n) (drop n room)) ≡ length old - n
+laid-left {t} {n} {old} {room} l = rw ((rest-whole n room).0, length-drop, laid-length l)
+
+-- texts in a row, put together as they are written
+pub in_parts : (a b c d e f g h i : List ℕ) → a ++ b ++ c ++ d ++ e ++ f ++ g ++ h ++ i ≡ ((a ++ b) ++ (c ++ d)) ++ (((e ++ f) ++ (g ++ h)) ++ i)
+in_parts a b c d e f g h i =
+    ap (λ (l : List ℕ). l ++ e ++ f ++ g ++ h ++ i) (append_assoc (a ++ b) c d)
+    ∙ ap (λ (l : List ℕ). l ++ g ++ h ++ i) (append_assoc ((a ++ b) ++ (c ++ d)) e f)
+    ∙ ap (λ (l : List ℕ). l ++ i) (append_assoc (((a ++ b) ++ (c ++ d)) ++ (e ++ f)) g h ∙ append_assoc ((a ++ b) ++ (c ++ d)) (e ++ f) (g ++ h))
+    ∙ append_assoc ((a ++ b) ++ (c ++ d)) ((e ++ f) ++ (g ++ h)) i
