@@ -1,7 +1,7 @@
 -- Signs by numbers: R(i,j), the sign of a letter against ai, and how many letters Σ1 has.
 -- Assumes nothing.
 use Prim.Native.Nat.{ℕ, zero, suc, ◌+◌, ◌-◌, ◌*◌, ◌/◌, ◌%◌, ◌^◌, ◌≤◌, ◌<◌}
-use mathlib.Core.Bool.{Bool, true, false, cond, not, ◌||◌}
+use mathlib.Core.Bool.{Bool, true, false, cond, ◌||◌}
 use mathlib.Core.List.{[], ◌∷◌}
 use mathlib.Core.Path.{◌≡◌, refl, sym, ap, ap₂, ◌∙◌}
 use native.Mathlib.Nat.{not-suc-le-zero, mod-eq_of_lt}
@@ -14,7 +14,6 @@ use lib.Pow.{shr_lt}
 use lib.Seq.{length-take-le}
 use Rattle.std.specs.Ordering.{is_lt, is_eq, is_gt}
 use Rattle.std.specs.declared.cmp.Ordering.{Ordering}
-use Rattle.std.specs.declared.cmp.Ordering.TheVariants.{Less, Equal, Greater}
 use Rattle.definitions.specs.Lists.{filter, all}
 use Rattle.definitions.specs.Words.{Word, Letters, letters, sum, ◌⊕◌, val, word as word_of}
 use Rattle.definitions.specs.Vigemins.{value}
@@ -53,12 +52,6 @@ signed_above x y = go (ltb x y) (eqb x y) refl refl
 -- and equal where they are equal
 signed_same : (x y : ℕ) → is_eq (signed (sign x y)) ≡ eqb x y
 signed_same x y = signed_equal (sign x y) refl ∙ equal-sign x y
-
--- an ordering is below where it is neither above nor equal
-pub below-neither : (r : Ordering) → is_lt r ≡ not (is_gt r || is_eq r)
-below-neither Less = refl
-below-neither Equal = refl
-below-neither Greater = refl
 
 -- ---- words by numbers
 

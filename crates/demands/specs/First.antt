@@ -4,7 +4,7 @@
 -- is room beyond what is written changed. The lists are spelled out first; each ground, with its number and its test, is in `Refusals` of
 -- `definitions`.
 -- Assumes nothing.
-use Rattle.std.specs.Prelude.{ℕ, zero, suc, Result, Ok, Err, ◌+◌, ◌-◌, ◌*◌, ◌^◌, ◌≤◌, ◌<◌, min, true, false, ◌↔◌, ◌≡◌, refl, length, replicate, drop}
+use Rattle.std.specs.Prelude.{ℕ, zero, suc, ◌+◌, ◌-◌, ◌*◌, ◌^◌, ◌≤◌, ◌<◌, min, true, false, ◌↔◌, ◌≡◌, refl, length, replicate, drop}
 use mathlib.Core.List.{List, [], ◌∷◌, ◌++◌, map, Memᴰ}
 use Rattle.std.specs.declared.cmp.Ordering.TheVariants.{Less}
 use Rattle.std.proofs.Common.{sym, ap, subst, ◌∙◌, arith, drop_at}
@@ -23,8 +23,7 @@ use Rattle.laws.specs.RoundTrips.{size_small}
 use Rattle.laws.specs.Numbers.{length-text}
 use Rattle.laws.specs.Orders.{key_ranking}
 use Rattle.laws.specs.Refusals.{numbers, rising, refusal-met, refusal-zero, refusal-none, refusal-lowest}
-use Rattle.refusals.specs.declared.Refusal.{Refusal}
-use Rattle.words.specs.Answers.{packed, unpacked}
+use Rattle.words.specs.Answers.{packed, unpacked, unpacked-room}
 use Rattle.vigemins.specs.Answers.{found}
 use Rattle.sequences.specs.Answers as sequences
 use Rattle.scans.specs.Answers.{scanned}
@@ -341,11 +340,6 @@ list-rest : (f : Form) (k : ℕ) (w : Word) (n : ℕ) (room : List ℕ) → let 
 unfolding listers.list_answer
 list-rest f k w zero room = rest-kept (map val (shelves.shelf f k w)) room (shelves.size f k w) (length-map (shelves.shelf f k w) val)
 list-rest f k w (suc n) room = refl
-
--- the room of an answer as an outcome is what the room holds at last
-pub unpacked-room : (r : Result ℕ Refusal) (last : List ℕ) → (unpacked r last).room ≡ last
-unpacked-room (Ok n) last = refl
-unpacked-room (Err e) last = refl
 
 -- unpacking, refused or not, changes no more of the room than it says that it wrote (of the scans ScanIs in Second says it and, refused, scan-refuses)
 pub unpack-spare : (κs : Lfts 1) (word n : ℕ) (room : LentRoom) (r : _) (last : List ℕ) → Unpacks κs word n room r last

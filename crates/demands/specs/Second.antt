@@ -23,13 +23,12 @@ use Rattle.laws.specs.Accepted.{PackAccepted, UnpackAccepted, ShelfAccepted, Cou
 use Rattle.laws.specs.RoundTrips.{pack-outcome, unpack-outcome, counter-row}
 use Rattle.laws.proofs.RoundTrips.{worksheet-size}
 use Rattle.refusals.specs.declared.Refusal.{Refusal}
-use Rattle.words.specs.Answers.{packed, unpacked}
+use Rattle.words.specs.Answers.{packed, unpacked, unpacked-room}
 use Rattle.scans.specs.Answers.{scanned}
 use Rattle.worksheets.specs.Answers.{worked}
 use Rattle.sizes.specs.Answers.{counted}
 use Rattle.counters.specs.Answers as counters
 use Rattle.demands.specs.Promises.{Lent, LentRoom, Packs, Unpacks, Scans, ScansBytes, Works, Sizes, Counts, ForeignScans}
-use Rattle.demands.specs.First.{unpacked-room}
 use Rattle.demands.specs.Meanings.{mer_at, keyed_number, Vigemin, Antemer, Postmer, Number, antemer-means, postmer-means, number-filter}
 
 -- ---- sizes and worksheets

@@ -2,7 +2,7 @@
 -- Assumes nothing.
 use Prim.Native.Nat.{ℕ, ◌+◌, ◌-◌, ◌≤◌, ◌<◌, min}
 use mathlib.Core.List.{List, ◌++◌, map, append_assoc}
-use mathlib.Core.Path.{◌≡◌, refl, sym, ap, ◌∙◌}
+use mathlib.Core.Path.{◌≡◌, sym, ap, ◌∙◌}
 use native.Mathlib.Omega.{arith}
 use lib.ListN.{length, take, drop, length-take, length-drop, length-map, take-append-drop}
 use lib.Seq.{sets-eq, drop-drop, drop-append-le}
@@ -12,7 +12,7 @@ use Rattle.definitions.specs.Vigemins.{keyed}
 use Rattle.definitions.specs.Shelves.{shelf, page}
 use Rattle.definitions.specs.Outcomes.{Paged, page_outcome}
 use Rattle.laws.specs.Filters.{take-least, take-map, drop-map}
-use Rattle.laws.specs.Rooms.{over_to, length-over_to, over_to-sets, over_to-all}
+use Rattle.laws.specs.Rooms.{over_to, length-over_to, over_to-sets}
 use Rattle.laws.specs.Listings.{page-outcome, page-written}
 use Rattle.listers.specs.Answers.{ListReady}
 
@@ -43,18 +43,10 @@ module _ {k m key w each size : ℕ} {old : List ℕ} (q : ListReady k m key w e
   numbers-long : length numbers ≡ size
   numbers-long = length-map (shelf (keyed (word_of m key)) k (word_of m w)) val ∙ sym q.sized
 
-  -- none is written yet
-  pub taking-none : Taking k m key w size old old 0
-  taking-none = record { within = omega arith; holds = refl }
-
   module _ {room : List ℕ} {at : ℕ} (t : Taking k m key w size old room at) where
     -- the room stays as long
     pub taking-long : length room ≡ length old
     taking-long = length-over_to numbers old {i = at} t.holds (omega (arith, numbers-long, t.within)) (omega (arith, t.within, q.takes))
-
-    -- all are written
-    pub taking-all : size ≤ at → room ≡ over numbers old
-    taking-all h = over_to-all numbers old {i = at} t.holds (omega (arith, t.within, numbers-long))
 
     module _ {n refusal written : ℕ} {after : List ℕ} (h : at < size) (e : n ≡ min each (length room - at))
         (p : record { refusal = refusal; written = written; room = after } ≡ page_outcome k m key w at (take n (drop at room))) where

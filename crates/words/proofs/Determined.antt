@@ -7,7 +7,7 @@ use Rattle.laws.specs.Accepted.{unpack_answer-refusal}
 use Rattle.laws.specs.Promises.{TakesAll, Determines}
 use Rattle.refusals.specs.declared.Refusal.{Refusal}
 use Rattle.refusals.specs.Numbers.{refusal_in, place_in, same-answer, same-placeless}
-use Rattle.words.specs.Answers.{packed, unpacked}
+use Rattle.words.specs.Answers.{packed, unpacked, unpacked-refusal, unpacked-room}
 use Rattle.words.proofs.pack.Kinds as pack-kinds
 use Rattle.words.proofs.pack.Reads as pack-reads
 use Rattle.words.proofs.unpack.Kinds as unpack-kinds
@@ -21,16 +21,6 @@ packed-refusal (Err r) = refl
 packed-place : (r : Result ℕ Refusal) → (packed r).place ≡ place_in r
 packed-place (Ok w) = refl
 packed-place (Err r) = refl
-
--- what unpacking answered has the number of the refusal and the room
-module _ (room : List ℕ) where
-  unpacked-refusal : (r : Result ℕ Refusal) → (unpacked r room).refusal ≡ refusal_in r
-  unpacked-refusal (Ok n) = refl
-  unpacked-refusal (Err r) = refl
-
-  unpacked-room : (r : Result ℕ Refusal) → (unpacked r room).room ≡ room
-  unpacked-room (Ok n) = refl
-  unpacked-room (Err r) = refl
 
 -- the outcome of unpacking has the number of the first ground that is met
 unpack-refusal : (x n : ℕ) (room : List ℕ) → (unpack_outcome x n room).refusal ≡ refusal (unpack_grounds x n room)
@@ -54,9 +44,9 @@ unpack-determined κs args a b x y h g =
     let n = args.1.0 in
     let old = args.1.1.0.now in
     let room : List ℕ = x.1.1.0 in
-    let same : room ≡ y.1.1.0 = sym (unpacked-room room a) ∙ ap (λ (o : Unpacked). o.room) (h ∙ sym g) ∙ unpacked-room y.1.1.0 b in
+    let same : room ≡ y.1.1.0 = sym (unpacked-room a room) ∙ ap (λ (o : Unpacked). o.room) (h ∙ sym g) ∙ unpacked-room b y.1.1.0 in
     let other : unpacked b room ≡ unpack_outcome word n old = ap (unpacked b) same ∙ g in (
-      same-placeless (λ r. unpacked r room) (λ (o : Unpacked). o.refusal) (λ (o : Unpacked). o.written) (unpacked-refusal room) (λ w. refl)
+      same-placeless (λ r. unpacked r room) (λ (o : Unpacked). o.refusal) (λ (o : Unpacked). o.written) (λ r. unpacked-refusal r room) (λ w. refl)
           (unpack_grounds word n old) refl (unpack-refusal word n old) a b h other,
       ap (λ (l : List ℕ). (tt, (tt, (l, tt)))) same,
     )
