@@ -1,18 +1,34 @@
 -- Texts that are laid in a lent room, one behind the other in the part of it that is left: laws for whoever lends room and not a text.
 -- Assumes nothing.
-use Prim.Native.Nat.{ℕ, ◌+◌, ◌-◌, ◌≤◌}
-use mathlib.Core.List.{List, ◌++◌, append-nil, append_assoc}
-use mathlib.Core.Path.{◌≡◌, sym, ap, ap₂, ◌∙◌}
+use Prim.Native.Nat.{ℕ, suc, ◌+◌, ◌-◌, ◌≤◌, ◌<◌, zero-le}
+use mathlib.Core.List.{List, [], ◌∷◌, ◌++◌, append-nil, append_assoc}
+use mathlib.Core.Path.{◌≡◌, refl, sym, ap, ap₂, ◌∙◌}
 use native.Mathlib.Omega.{arith}
-use lib.ListN.{length, take, drop, length-append, length-drop}
+use lib.ListN.{length, take, drop, set, length-append, length-drop}
+use lib.Seq.{take-append_seam, get_or_at}
 use Rattle.definitions.specs.Lists.{over}
-use Rattle.laws.specs.Rooms.{over-append, length_over, rest-whole}
+use Rattle.laws.specs.Rooms.{over_to-more, over_to-all, over-append, length_over, rest-whole}
 
 -- a text was written at the front of a room, and so many bytes were told
 pub record Laid (t : List ℕ) (told : ℕ) (old room : List ℕ) : Type 0 where
   pub long : told ≡ length t
   pub fits : length t ≤ length old
   pub front : room ≡ over t old
+
+-- nothing is written yet
+pub laid_none : (old : List ℕ) → Laid [] 0 old old
+laid_none old = record { long = refl; fits = zero-le; front = refl }
+
+-- one byte more
+pub laid-byte : {t : List ℕ} {n : ℕ} (b : ℕ) {old room : List ℕ} → Laid t n old room → n < length old → Laid (t ++ (b ∷ [])) (n + 1) old (set room n b)
+laid-byte {t} {n} b {old} {room} l h =
+    let more : length (t ++ (b ∷ [])) ≡ suc n = rw length-append (omega (arith, l.long)) in
+    let before : room ≡ take n (t ++ (b ∷ [])) ++ drop n old = rw (l.long, take-append_seam) l.front in
+    record {
+      long = omega (arith, more);
+      fits = omega (arith, more);
+      front = over_to-all (t ++ (b ∷ [])) old (over_to-more (t ++ (b ∷ [])) old 0 before (sym (get_or_at t b [] 0 n (sym l.long))) (omega (arith, more)) h) (sym more);
+    }
 
 -- the room keeps its length
 pub laid-length : {t : List ℕ} {n : ℕ} {old room : List ℕ} → Laid t n old room → length room ≡ length old

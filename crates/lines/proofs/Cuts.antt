@@ -1,9 +1,10 @@
 -- The parts of an input, and when these are a line.
 -- Assumes nothing.
-use Rattle.std.proofs.Common.{ℕ, suc, ◌+◌, ◌<◌, Bool, true, false, cond, ◌&&◌, eqb, ltb, Option, Some, None, position, List, length, ◌≡◌, refl, sym, ap, ap₂, ◌∙◌, arith, ltb-true, ltb-false, eq-eqb, ne_eqb}
+use Rattle.std.proofs.Common.{ℕ, suc, ◌+◌, ◌≤◌, ◌<◌, Bool, true, false, cond, ◌&&◌, eqb, ltb, Option, Some, None, position, List, length, ◌≡◌, refl, sym, ap, ap₂, ◌∙◌, arith, ltb-true, ltb-false, eq-eqb, ne_eqb}
 use Rattle.std.proofs.lemmas.List.Recursion.{is_position_or_len}
 use Rattle.definitions.specs.Lists.{first_place}
 use Rattle.definitions.specs.Cards.{space, line_feed, before, behind, Parts, parts, proper, well_formed, asks}
+use Rattle.laws.specs.Places.{first_place-le}
 use Rattle.laws.specs.Cards.{length_before, length-behind, line-test}
 use Rattle.lines.specs.Answers.{IsUncut, IsCut, parts_of, asked_by, asked_for}
 
@@ -37,12 +38,16 @@ module _ (b : ℕ) (s : List ℕ) {o : Option ℕ} (found : o ≡ position (eqb 
 -- ---- three cuts
 
 -- the parts of an input, and what lies behind each space
-record Cuts (s k rest key last word : List ℕ) : Type 0 where
-  first : k ≡ before space s
-  behind_first : rest ≡ behind space s
-  second : key ≡ before space rest
-  behind_second : last ≡ behind space rest
-  third : word ≡ before line_feed last
+pub record Cuts (s k rest key last word : List ℕ) : Type 0 where
+  pub first : k ≡ before space s
+  pub behind_first : rest ≡ behind space s
+  pub second : key ≡ before space rest
+  pub behind_second : last ≡ behind space rest
+  pub third : word ≡ before line_feed last
+
+-- what lies before a byte is no longer than the text
+before-le : (b : ℕ) (s : List ℕ) → length (before b s) ≤ length s
+before-le b s = rw length_before (first_place-le (eqb b) s)
 
 module _ {s k rest key last word : List ℕ} (c : Cuts s k rest key last word) where
   -- they are the parts
@@ -53,6 +58,23 @@ module _ {s k rest key last word : List ℕ} (c : Cuts s k rest key last word) w
       let m : key ≡ before space (behind space s) = c.second ∙ ap (before space) r in
       let w : word ≡ before line_feed (behind space (behind space s)) = c.third ∙ ap (before line_feed) l in
       ap (λ (u : List ℕ). parts_of u key word) c.first ∙ ap₂ (λ (u v : List ℕ). parts_of (before space s) u v) m w
+
+  -- they are no longer than the input
+  pub cuts-short : length k + length key + length word ≤ length s
+  cuts-short =
+      omega (
+        arith,
+        ap length c.first,
+        ap length c.behind_first,
+        ap length c.second,
+        ap length c.behind_second,
+        ap length c.third,
+        before-le space s,
+        before-le space rest,
+        before-le line_feed last,
+        length-behind space s,
+        length-behind space rest,
+      )
 
   -- when the input is well formed
   cuts-formed : well_formed s ≡ (eqb (length k + length key + length word + 3) (length s) && proper (parts_of k key word))

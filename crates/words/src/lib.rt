@@ -2,9 +2,10 @@
 #![tactic(auto)]
 
 ghost use Rattle.std.specs.Prelude.{◌≡◌, ◌<◌, ◌≤◌, not, length, get_or};
-ghost use Rattle.definitions.specs.Words.{capitals, word as word_of, text as written};
+ghost use Rattle.definitions.specs.Words.{val, spelled, capitals, word as word_of, text as written};
 ghost use Rattle.definitions.specs.Refusals.{bad_length};
 ghost use Rattle.definitions.specs.Outcomes.{pack_outcome, unpack_outcome};
+ghost use Rattle.laws.specs.Accepted.{PackAccepted};
 ghost use Rattle.words.specs.Answers.{packed, unpacked};
 
 use refusals::Refusal;
@@ -16,6 +17,18 @@ fn is_length(n: u64) -> bool
     (1..=31).contains(&n)
 }
 
+// The number of the word that a text of at most 31 letters spells.
+fn read(text: &[u8]) -> u64
+    requires { PackAccepted text.now }
+    ensures { result ≡ val (spelled text.now) }
+{
+    let mut word = 0;
+    for i in 0..text.len() {
+        word = word * 4 + letters::letter(text[i]).unwrap();
+    }
+    word
+}
+
 // The word that a text spells. Refusals 1, 6.
 pub fn pack(text: &[u8]) -> Result<u64, Refusal>
     ensures { packed result ≡ pack_outcome text.now }
@@ -23,14 +36,10 @@ pub fn pack(text: &[u8]) -> Result<u64, Refusal>
     if !is_length(text.len() as u64) {
         return Err(Refusal::K);
     }
-    let mut word = 0;
-    for (place, byte) in text.iter().enumerate() {
-        let bad = Refusal::Letter {
-            place: place as u64,
-        };
-        word = word * 4 + letters::letter(*byte).ok_or(bad)?;
+    if let Some(bad) = letters::first_bad(text) {
+        return Err(Refusal::Letter { place: bad as u64 });
     }
-    Ok(word)
+    Ok(read(text))
 }
 
 // The byte that a letter is written as.

@@ -1,17 +1,17 @@
 -- `sequences::examine` meets its contract: each return gives the number of the first ground whose test held, and what stands beside it.
 -- Assumes nothing.
-use Rattle.std.specs.Prelude.{ℕ, zero, suc, ◌-◌, ◌≤◌, Bool, true, false, cond, Some, None, not, List, [], ◌∷◌, Err, ◌≡◌, refl, eqb, ltb, length}
+use Rattle.std.specs.Prelude.{ℕ, zero, suc, ◌-◌, ◌≤◌, Bool, cond, None, not, List, [], ◌∷◌, Err, ◌≡◌, refl, eqb, ltb, length}
 use Rattle.std.proofs.Common.{sym, ◌∙◌, arith}
 use Rattle.std.proofs.lemmas.Result.{err_from_is_err_and}
 use borrow.Author.Tests.{ne_eqb, lt-ltb, le-ltb}
 use Rattle.definitions.specs.Lists.{all}
 use Rattle.definitions.specs.Words.{is_letter_byte}
 use Rattle.definitions.specs.Vigemins.{windows}
-use Rattle.definitions.specs.Refusals.{Ground, refusal, bad_key, bad_sequence, bad_letter, bad_room, first_bad_place, place_beside}
+use Rattle.definitions.specs.Refusals.{Ground, refusal, bad_key, bad_sequence, bad_letter, bad_room, place_beside}
 use Rattle.definitions.specs.Outcomes.{order_grounds}
 use Rattle.laws.specs.Minima.{length-windows}
 use Rattle.laws.specs.Refusals.{refusal-append, refusal-most}
-use Rattle.letters.specs.Readings.{bad_place}
+use Rattle.letters.specs.Readings.{bad_place, some-bad, none-bad}
 use Rattle.refusals.specs.Numbers.{number_of, place_of, number-some, place-other}
 use Rattle.refusals.specs.declared.Refusal.{Refusal}
 use Rattle.refusals.specs.declared.Refusal.TheVariants.{Letter}
@@ -32,16 +32,6 @@ rest k s takes = bad_sequence (length s) ∷ bad_letter s ∷ bad_room (length (
 given : (k m key : ℕ) (s : List ℕ) (takes : ℕ) {r : ℕ} → r ≡ refusal (order_grounds k m (bad_key m key))
     → refusal (examine_grounds k m key s takes) ≡ cond (eqb r 0) (refusal (rest k s takes)) r
 given k m key s takes e = refusal-append (order_grounds k m (bad_key m key)) (rest k s takes) (omega arith) (sym e)
-
--- where a place of a bad letter is found, the letters are bad, and it is that place
-some-bad : (t : Bool) {place q : ℕ} → Some place ≡ cond t None (Some q) → (not t ≡ true) × (place ≡ q)
-some-bad true e = cc
-some-bad false e = (refl, cc)
-
--- and else they are good
-none-bad : (t : Bool) (q : ℕ) → None ≡ cond t None (Some q) → not t ≡ false
-none-bad true q e = refl
-none-bad false q e = cc
 
 -- where k, m, the key and the length are good, the letters and the room are left to be tested
 left : (k m key : ℕ) (s : List ℕ) (takes : ℕ) → 0 ≡ refusal (order_grounds k m (bad_key m key)) → length s ≤ 65536 → {bad full : Bool}
@@ -72,13 +62,13 @@ unfolding examine_outcome
 returns-in-Some c =
     let a = c.args in
     let s = a.seq.now in
-    let bad = some-bad (all is_letter_byte s) c.in-Some.ensures in
+    let bad = some-bad s c.in-Some.ensures in
     rw (left a.k a.m a.key s a.takes c.in_ok-order_refusal.ensures (omega arith) bad.0 refl) (refused (Letter c.in-Some.bad) 6 refl a.k s bad.1)
 
 -- where the letters are good only the room is left
 fine : (k m key : ℕ) (s : List ℕ) (takes : ℕ) → 0 ≡ refusal (order_grounds k m (bad_key m key)) → length s ≤ 65536 → None ≡ bad_place s
     → {w : ℕ} → w ≡ suc (length s) - k → {full : Bool} → ltb takes w ≡ full → refusal (examine_grounds k m key s takes) ≡ cond full 7 0
-fine k m key s takes g h b e f = left k m key s takes g h (none-bad (all is_letter_byte s) (first_bad_place s) b) (rw e at f)
+fine k m key s takes g h b e f = left k m key s takes g h (none-bad s b) (rw e at f)
 
 pub returns-then-takes-windows : goal.returns-then-takes-windows
 unfolding examine_outcome examine_answer
