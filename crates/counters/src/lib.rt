@@ -139,7 +139,7 @@ impl Setting {
         ensures { result ≡ sharing_from (own_word self) (is_antemer self) i n }
     {
         let mut sum = 0;
-        for shared in i..self.m.min(n) + 1 {
+        for shared in i..powers::lesser(self.m, n) + 1 {
             sum += self.one_prefix(shared, n);
         }
         sum

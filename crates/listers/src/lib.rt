@@ -27,7 +27,7 @@ fn list_pages(
     let mut at: u64 = 0;
     // By hand: a page starts where the last one stopped, which its answer tells; parts cut beforehand by `chunks_mut` ask that `each` is not 0, and that a page fills its part.
     while at < size {
-        let end = at + each.min(room.len() as u64 - at);
+        let end = at + powers::lesser(each, room.len() as u64 - at);
         at += shelves::page(k, m, key, word, at, &mut room[at as usize..end as usize])?;
     }
     Ok(at)
@@ -46,7 +46,7 @@ pub fn list(
     ensures { listed result room.new ≡ list_outcome k m key word each room.old }
 {
     let size = sizes::size(k, m, key, word)?;
-    if ((room.len() as u64) < size) | (each < size.min(1)) {
+    if ((room.len() as u64) < size) | (each < powers::lesser(1, size)) {
         return Err(Refusal::Room);
     }
     list_pages(k, m, key, word, each, size, room)

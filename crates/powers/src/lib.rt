@@ -70,7 +70,7 @@ pub fn power(n: u64) -> u64
 }
 
 // The lesser of two numbers.
-// By hand: a public function, whose name and contract may not change; it is `min`, which the crates here write.
+// By hand: a public function, whose name and contract may not change; it is `min`, and the libraries take their minima by it, so that its contract holds what they run.
 pub fn lesser(a: u64, b: u64) -> u64
     ensures { result ≡ min a b }
 {
@@ -78,7 +78,7 @@ pub fn lesser(a: u64, b: u64) -> u64
 }
 
 // How one number stands against another.
-// By hand: a public function, whose name and contract may not change; it is `cmp`.
+// By hand: a public function, whose name and contract may not change; it is `cmp`, and the states and the plain counter compare by it, so that its contract holds what they run.
 pub fn sign(x: u64, y: u64) -> Ordering
     ensures { result ≡ signed (sign_of x y) }
 {

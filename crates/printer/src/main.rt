@@ -1,6 +1,8 @@
 // The shelf printer: reads standard input to its end, and writes the card of the shelf that its line names.
 #![tactic(auto)]
 
+ghost use Rattle.std.specs.Prelude.{◌≤◌, length, IfOk};
+
 use std::io;
 use std::io::{Print, Read, Stdin};
 
@@ -19,7 +21,9 @@ fn skip_rest(input: &mut Stdin) -> io::Result<()> {
 // Reads to the end of the input, and answers what of it stands in the room. A well-formed line has at most 67 bytes, so what fills the room is refused
 // however it goes on.
 // By hand: a `Vec` that `read_to_end` fills takes a heap, which adds to what README says this program assumes; and `io::copy` tries an interrupted read again, as above.
-fn read_all<'a>(input: &mut Stdin, room: &'a mut [u8; 128]) -> io::Result<&'a [u8]> {
+fn read_all<'a>(input: &mut Stdin, room: &'a mut [u8; 128]) -> io::Result<&'a [u8]>
+    ensures { IfOk result (λ read. length read.now ≤ 128) }
+{
     let mut n = 0;
     while n < room.len() {
         match input.read(&mut room[n..])? {

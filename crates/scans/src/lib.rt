@@ -92,9 +92,9 @@ fn suffixes(width: u64, left: &mut [u64; 32], right: &mut [u64; 32])
     let mut least = left[last];
     let mut other = right[last];
     for i in (0..last).rev() {
-        least = left[i].min(least);
+        least = powers::lesser(left[i], least);
         left[i] = least;
-        other = right[i].min(other);
+        other = powers::lesser(right[i], other);
         right[i] = other;
     }
 }
@@ -279,7 +279,7 @@ impl<'a> Reading<'a> {
         let far = stamp + self.settings.width;
         Run {
             word,
-            least: r.least.min(far),
+            least: powers::lesser(r.least, far),
         }
     }
 
@@ -309,7 +309,7 @@ impl<'a> Reading<'a> {
         ensures small { result < 65536 }
         ensures value { result ≡ get_or (positions_of self.now.settings self.now.seq.now) (block + at) 0 }
     {
-        let lowest = ring[at as usize].min(r.least);
+        let lowest = powers::lesser(ring[at as usize], r.least);
         block + (lowest & (self.settings.side - 1))
     }
 

@@ -1,12 +1,12 @@
 -- Laws of listing: the k-mers under a beginning, by their next letter, and room into which they are written.
 -- Assumes nothing.
-use Prim.Native.Nat.{ℕ, suc, ◌+◌, ◌-◌, ◌*◌, ◌%◌, ◌^◌, ◌≤◌, ◌<◌, min}
+use Prim.Native.Nat.{ℕ, zero, suc, ◌+◌, ◌-◌, ◌*◌, ◌%◌, ◌^◌, ◌≤◌, ◌<◌, min}
 use mathlib.Core.Bool.{Bool, true, false, cond}
 use mathlib.Core.List.Memᴰ
 use mathlib.Core.List.{List, [], ◌∷◌, ◌++◌, map, map-map, append-nil, Memᴰ}
 use mathlib.Core.Logic.{⊎_elim}
 use mathlib.Core.Path.{◌≡◌, sym, ap, ap₂, fun_ext, ◌∙◌}
-use native.Mathlib.Nat.{add_assoc, suc-mul, add-mul, mul_assoc, mul_left_comm, mul-le-mul_right, pow-succ', pow-le-pow_right, one-le-pow, mod-lt}
+use native.Mathlib.Nat.{add_assoc, suc-mul, add-mul, mul_assoc, mul_left_comm, mul-le-mul_right, pow-succ', pow-le-pow_right, one-le-pow, mod-lt, zero-lt-suc}
 use native.Mathlib.Numerals.{add-one}
 use native.Mathlib.Omega.{arith}
 use lib.ListN.{length, get_or, take, drop, set, length-append, length-take, length-drop, length-map, drop_of_length-le}
@@ -241,6 +241,11 @@ begun-low left begun b o h k l =
     let most : 4 ^ (31 - (left - 1)) ≤ 4 ^ 31 = pow-le-pow_right four-pos {j = 31} (omega arith) in
     omega (arith, most, begun-small left begun b o h k l)
 
+-- where some way is left, and not all, some letter is left
+some_left : (moves ban : List ℕ) (s left skip : ℕ) → skip < ways_from moves ban s left → (ways_from moves ban s left ≡ 4 ^ left → ⊥) → 0 < left
+some_left moves ban s zero skip h n = absurd (n (omega (arith, ways-le (allowed ban) (leads moves) met s 0)))
+some_left moves ban s (suc left) skip h n = zero-lt-suc left
+
 module _ {k m word left state begun skip : ℕ} {moves ban ways powers : List ℕ} (t : Tables m moves ban) (d : Complete k m word moves ban ways powers)
     (q : Reached k m left state begun skip moves ban) where
   -- so many letters are few
@@ -270,6 +275,10 @@ module _ {k m word left state begun skip : ℕ} {moves ban ways powers : List �
   -- so does the number with which those that are listed start
   pub start-lt : begun * get_or powers left 0 + skip < 4 ^ 31
   start-lt = rw power-is (omega (arith, numbers_fit, q.behind, ways-le (allowed ban) (leads moves) met state left))
+
+  -- where not every word completes the beginning, some letter is left
+  pub once-none : (get_or ways (64 * left + state) 0 ≡ get_or powers left 0 → ⊥) → 0 < left
+  once-none n = some_left moves ban state left skip q.behind (λ r. n (count-is ∙ r ∙ sym power-is))
 
   -- where every word completes it, its numbers follow one another
   pub once-free : get_or ways (64 * left + state) 0 ≡ get_or powers left 0

@@ -1,6 +1,6 @@
 -- The table of moves, and the table of ways row by row.
 -- Assumes nothing.
-use Prim.Native.Nat.{ℕ, suc, ◌+◌, ◌-◌, ◌*◌, ◌^◌, ◌≤◌, ◌<◌}
+use Prim.Native.Nat.{ℕ, suc, ◌+◌, ◌-◌, ◌*◌, ◌/◌, ◌^◌, ◌≤◌, ◌<◌}
 use mathlib.Core.Bool.{Bool, true, false, cond}
 use mathlib.Core.List.{List}
 use mathlib.Core.Logic.{inl, ⊎_elim}
@@ -30,6 +30,14 @@ pub record MovesTo (m to : ℕ) (next moves : List ℕ) : Type 0 where
 -- a state is below 64
 pub live-lt : {m s : ℕ} → m ≤ 31 → Live m s → s < 64
 live-lt h l = ⊎_elim (λ k. omega arith) (λ k. omega arith) l
+
+-- the highest bit of a state says whether the word was met
+pub met-bit : (s : ℕ) → s < 64 → s / 32 ≡ cond (met s) 1 0
+met-bit s h = go (leb 32 s) refl
+  where
+    go : (t : Bool) → leb 32 s ≡ t → s / 32 ≡ cond t 1 0
+    go true q = omega (arith, leb-true 32 s q)
+    go false q = omega (arith, leb-false 32 s q)
 
 -- ---- the ways from a state
 

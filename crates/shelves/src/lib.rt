@@ -151,7 +151,7 @@ fn run(numbers: Stretch, room: &mut [u64]) -> usize
     ensures { Listed (tabulate (λ i. numbers.first + i) numbers.count) 0 room.old room.new result }
 {
     let first = numbers.first;
-    let n = numbers.count.min(room.len() as u64);
+    let n = powers::lesser(numbers.count, room.len() as u64);
     for i in 0..n {
         room[i as usize] = first + i;
     }

@@ -3,7 +3,7 @@
 use Rattle.std.specs.Prelude.{ℕ, ◌+◌, ◌*◌, ◌≤◌, ◌<◌, Bool, true, false, cond, List, map, ◌≡◌, refl, ltb, leb, eqb, length, get_or, take, drop}
 use Rattle.std.specs.declared.cmp.Ordering.{Ordering}
 use Rattle.std.specs.declared.cmp.Ordering.TheVariants.{Less, Equal, Greater}
-use Rattle.std.specs.Ordering.{nat_cmp, ordering_index}
+use Rattle.std.specs.Ordering.{ordering_index}
 use Rattle.std.proofs.Common.{sym, ap, ◌∙◌, arith, ltb-true, le-leb, ne_eqb}
 use Rattle.definitions.specs.Lists.{tabulate}
 use Rattle.definitions.specs.Words.{Word, Letters, letters}
@@ -11,12 +11,14 @@ use Rattle.laws.specs.Numbers.{letter-lt}
 use Rattle.laws.specs.Filters.{tabulate-at}
 use Rattle.laws.specs.Orders.{Ranking, OneToOne}
 use Rattle.laws.specs.States.{next}
+use Rattle.laws.specs.Rules.{sign, less, equal, greater}
 use Rattle.laws.specs.Bans.{never, ban, low_by}
+use Rattle.powers.specs.Signs.{signed}
 use Rattle.states.specs.Grids.{grid, grid-at}
 
--- how a rank stands beside that of w's own letter
+-- how a rank stands beside that of w's own letter: its sign against it
 abbrev pub mark_of : ℕ → ℕ → Ordering
-mark_of rank own = nat_cmp rank own
+mark_of rank own = signed (sign rank own)
 
 -- whether a mark is the one asked for
 abbrev pub is_mark : Ordering → Ordering → Bool
@@ -26,7 +28,7 @@ is_mark mark asked = eqb (ordering_index mark) (ordering_index asked)
 pub mark-equal : (r o : ℕ) → is_mark (mark_of r o) Equal ≡ eqb r o
 mark-equal r o = go (ltb r o) (eqb r o) refl refl
   where
-    go : (s t : Bool) → ltb r o ≡ s → eqb r o ≡ t → is_mark (cond s Less (cond t Equal Greater)) Equal ≡ t
+    go : (s t : Bool) → ltb r o ≡ s → eqb r o ≡ t → is_mark (signed (cond s less (cond t equal greater))) Equal ≡ t
     go true t p q = sym (ne_eqb r o (λ e. omega (arith, ltb-true r o p))) ∙ q
     go false true p q = refl
     go false false p q = refl
@@ -35,7 +37,7 @@ mark-equal r o = go (ltb r o) (eqb r o) refl refl
 pub mark-below : (r o : ℕ) → is_mark (mark_of r o) Less ≡ ltb r o
 mark-below r o = go (ltb r o) (eqb r o)
   where
-    go : (s t : Bool) → is_mark (cond s Less (cond t Equal Greater)) Less ≡ s
+    go : (s t : Bool) → is_mark (signed (cond s less (cond t equal greater))) Less ≡ s
     go true t = refl
     go false true = refl
     go false false = refl
@@ -46,7 +48,7 @@ entry_by asked held mark fallen = cond (is_mark mark asked) held fallen
 
 -- a state's row, by its marks and by the row of the state that it falls to
 abbrev pub linked_row : Ordering → ℕ → List Ordering → List ℕ → List ℕ
-linked_row asked held marks fallen = map (λ b. entry_by asked held (get_or marks b Greater) (get_or fallen b 0)) letters
+linked_row asked held marks fallen = map (λ b. entry_by asked held (get_or marks b Less) (get_or fallen b 0)) letters
 
 -- the row of a state
 abbrev pub row_of : {A : Type 0} → ℕ → List A → List A

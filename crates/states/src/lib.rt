@@ -94,10 +94,10 @@ fn special_alphabets(m: u64, key: u64, word: u64) -> States
         let rank = letter ^ key_letter;
         s.own[p as usize] = letter as u8;
         let marked = Four {
-            a: (0 ^ key_letter).cmp(&rank),
-            c: (1 ^ key_letter).cmp(&rank),
-            g: (2 ^ key_letter).cmp(&rank),
-            t: (3 ^ key_letter).cmp(&rank),
+            a: powers::sign(0 ^ key_letter, rank),
+            c: powers::sign(1 ^ key_letter, rank),
+            g: powers::sign(2 ^ key_letter, rank),
+            t: powers::sign(3 ^ key_letter, rank),
         };
         marked.put(p, &mut s.marks);
     }

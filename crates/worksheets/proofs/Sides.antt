@@ -16,14 +16,13 @@ use Rattle.definitions.specs.Words.{Word, letters}
 use Rattle.definitions.specs.Shelves.{row, antemers, postmers}
 use Rattle.laws.specs.Tests.{leb-cong, leb-min}
 use Rattle.laws.specs.Walks.{ways-le}
-use Rattle.laws.specs.Orders.{Ranking, ranked}
+use Rattle.laws.specs.Orders.{Ranking, OneToOne, ranked}
 use Rattle.laws.specs.States.{first, next, longest-le, next_le, next-own}
 use Rattle.laws.specs.Tables.{antemer_ok, antemer_end, antemer_ways, postmer_ok, postmer_end, postmer_ways, ways-free, antemers-table, postmers-table, postmer-end, antemer-stop}
 use Rattle.laws.specs.Bans.{never, ban, ban-le, ban-most, low_by, lasts, antemer-row, postmer-row, word-allowed}
-use Rattle.states.specs.Tables.{LettersOf, next-entry, ban-entry}
-use Rattle.worksheets.specs.Columns.{StatesOf, UpTo, ReachIs, EndsAre, LastsIs, end_ways, Counts, AntemersAre, PostmersAre}
+use Rattle.states.specs.Tables.{LettersOf, LinksOf, next-entry, ban-entry}
+use Rattle.worksheets.specs.Columns.{UpTo, ReachIs, EndsAre, LastsIs, end_ways, Counts, AntemersAre, PostmersAre}
 use Rattle.laws.proofs.RulesHold.{total-letters}
-use Rattle.states.specs.declared.States.{States}
 use Rattle.worksheets.proofs.Laws.{own-later}
 use Rattle.worksheets.proofs.Rows.{up_to-column}
 
@@ -101,42 +100,43 @@ live-begins ρ w live i h = sym (ap (λ (t : Bool). cond t (antemer_ways ρ w i 
 
 -- ---- counting
 
-module _ {ρ : Ranking} {w : Word} {m : ℕ} {tables : States} (s : StatesOf ρ w m tables) where
+module _ (ρ : Ranking) {w : Word} {m : ℕ} {own : List ℕ} (l : LettersOf w m own) where
   -- the first letters of w are allowed in some row
   first_some : (j : ℕ) → j ≤ m → 0 < lasts w (low_by ρ w) j
   first_some zero h = omega arith
-  first_some (suc j) h = omega (arith, first_some j (omega arith), own-later s j h, s.alphabets.word.long)
+  first_some (suc j) h = omega (arith, first_some j (omega arith), own-later ρ l j h, l.long)
 
   -- w is allowed in some row
   pub lasts-some : {last : ℕ} → LastsIs ρ w last → 0 < last
-  lasts-some e = omega (arith, e, first_some (length w) (omega (arith, s.alphabets.word.long)))
+  lasts-some e = omega (arith, e, first_some (length w) (omega (arith, l.long)))
 
+module _ {ρ : Ranking} {w : Word} {m : ℕ} {own nexts bans : List ℕ} (one : OneToOne ρ) (l : LettersOf w m own) (s : LinksOf ρ w nexts bans) where
   -- a next state is at most one more, and at most m
-  next_low : (i b : ℕ) → i ≤ m → b < 4 → (get_or tables.next (4 * i + b) 0 ≤ suc i) × (get_or tables.next (4 * i + b) 0 ≤ m)
+  next_low : (i b : ℕ) → i ≤ m → b < 4 → (get_or nexts (4 * i + b) 0 ≤ suc i) × (get_or nexts (4 * i + b) 0 ≤ m)
   next_low i b h k =
-      let e = next-entry s.alphabets.word s.links.nexts i b h k in
-      (omega (arith, e, next_le w i b), omega (arith, e, s.alphabets.word.long, longest-le w (length w) (b ∷ first w i)))
+      let e = next-entry l s.nexts i b h k in
+      (omega (arith, e, next_le w i b), omega (arith, e, l.long, longest-le w (length w) (b ∷ first w i)))
 
   -- a ban is at most m, or never
-  ban-low : (i b : ℕ) → i ≤ m → b < 4 → (get_or tables.ban (4 * i + b) 0 ≤ m) ⊎ (get_or tables.ban (4 * i + b) 0 ≡ never)
-  ban-low i b h k = rw (ban-entry s.alphabets.word ρ s.links.bans i b h k) (go (ltb (ban w (low_by ρ w) i b) never) refl)
+  ban-low : (i b : ℕ) → i ≤ m → b < 4 → (get_or bans (4 * i + b) 0 ≤ m) ⊎ (get_or bans (4 * i + b) 0 ≡ never)
+  ban-low i b h k = rw (ban-entry l ρ s.bans i b h k) (go (ltb (ban w (low_by ρ w) i b) never) refl)
     where
       go : (t : Bool) → ltb (ban w (low_by ρ w) i b) never ≡ t → (ban w (low_by ρ w) i b ≤ m) ⊎ (ban w (low_by ρ w) i b ≡ never)
-      go true e = inl (omega (arith, s.alphabets.word.long, ban-most w (low_by ρ w) i b (ltb-true (ban w (low_by ρ w) i b) never e)))
+      go true e = inl (omega (arith, l.long, ban-most w (low_by ρ w) i b (ltb-true (ban w (low_by ρ w) i b) never e)))
       go false e =
-          inr (omega (arith, ltb-false (ban w (low_by ρ w) i b) never e, ban-le w (low_by ρ w) i b (omega (arith, s.alphabets.word.long, s.alphabets.word.few))))
+          inr (omega (arith, ltb-false (ban w (low_by ρ w) i b) never e, ban-le w (low_by ρ w) i b (omega (arith, l.long, l.few))))
 
   -- a sum over the letters, by the tables
   by-tables : (W : ℕ → ℕ → ℕ) (i n left left' : ℕ) → i ≤ m → left ≡ left'
       → total (map (λ b. cond (ltb left (ban w (low_by ρ w) i b)) (W (next w i b) n) 0) letters)
-      ≡ total (map (λ b. cond (ltb left' (get_or tables.ban (4 * i + b) 0)) (W (get_or tables.next (4 * i + b) 0) n) 0) letters)
+      ≡ total (map (λ b. cond (ltb left' (get_or bans (4 * i + b) 0)) (W (get_or nexts (4 * i + b) 0) n) 0) letters)
   by-tables W i n left left' h e =
-      total-letters (λ b. cond (ltb left (ban w (low_by ρ w) i b)) (W (next w i b) n) 0) (λ b. cond (ltb left' (get_or tables.ban (4 * i + b) 0)) (W (get_or tables.next (4 * i + b) 0) n) 0)
-      (λ b k. rw (ban-entry s.alphabets.word ρ s.links.bans i b h k, next-entry s.alphabets.word s.links.nexts i b h k, e))
+      total-letters (λ b. cond (ltb left (ban w (low_by ρ w) i b)) (W (next w i b) n) 0) (λ b. cond (ltb left' (get_or bans (4 * i + b) 0)) (W (get_or nexts (4 * i + b) 0) n) 0)
+      (λ b k. rw (ban-entry l ρ s.bans i b h k, next-entry l s.nexts i b h k, e))
 
   module _ (k : ℕ) (h : m ≤ k) (f : k ≤ 31) where
     -- the antemers are counted from state 0, with w to follow; from the states from `live` on there is no way
-    pub antemer-side : {live : ℕ} {ends : List ℕ} → ReachIs ρ w live → EndsAre ρ w live ends → Counts (live_ways ρ w live) m (k - m) 0 m live ends tables.next tables.ban
+    pub antemer-side : {live : ℕ} {ends : List ℕ} → ReachIs ρ w live → EndsAre ρ w live ends → Counts (live_ways ρ w live) m (k - m) 0 m live ends nexts bans
     antemer-side {live} c e =
         record {
           some = a.some;
@@ -155,15 +155,15 @@ module _ {ρ : Ranking} {w : Word} {m : ℕ} {tables : States} (s : StatesOf ρ 
           small = live_small ρ w live;
         }
       where
-        a : LettersOf w m tables.own
-        a = s.alphabets.word
+        a : LettersOf w m own
+        a = l
 
         low : live ≤ m
         low = omega (arith, c.most, a.long)
 
     -- the postmers are counted from state m, with nothing to follow, in the rows in which w is allowed
     pub postmer-side : {rows last : ℕ} {ones : List ℕ} → rows ≡ min (k - m) (last - 1) → LastsIs ρ w last → UpTo 64 (m + 1) (λ i. 1) ones
-        → Counts (postmer_ways ρ w) m rows m 0 (m + 1) ones tables.next tables.ban
+        → Counts (postmer_ways ρ w) m rows m 0 (m + 1) ones nexts bans
     postmer-side r e o =
         record {
           some = a.some;
@@ -185,8 +185,8 @@ module _ {ρ : Ranking} {w : Word} {m : ℕ} {tables : States} (s : StatesOf ρ 
           small = ways-le (postmer_ok ρ w) (next w) (postmer_end ρ w);
         }
       where
-        a : LettersOf w m tables.own
-        a = s.alphabets.word
+        a : LettersOf w m own
+        a = l
 
     -- the column of the antemers
     pub antemer-column : {live : ℕ} {r : List ℕ} → ReachIs ρ w live → UpTo 31 (suc (k - m)) (live_ways ρ w live 0) r → AntemersAre ρ w k m r
@@ -194,7 +194,7 @@ module _ {ρ : Ranking} {w : Word} {m : ℕ} {tables : States} (s : StatesOf ρ 
       where
         all_live : live_ways ρ w live 0 ≡ antemers (ranked ρ) w
         all_live =
-            fun_ext (λ a. ap (λ (t : Bool). cond t (antemer_ways ρ w 0 a) 0) (lt-ltb 0 live c.some) ∙ sym (antemers-table ρ s.alphabets.one w s.alphabets.word.letters a))
+            fun_ext (λ a. ap (λ (t : Bool). cond t (antemer_ways ρ w 0 a) 0) (lt-ltb 0 live c.some) ∙ sym (antemers-table ρ one w l.letters a))
 
     -- the column of the postmers
     pub postmer-column : {rows last : ℕ} {r : List ℕ} → rows ≡ min (k - m) (last - 1) → LastsIs ρ w last → UpTo 31 (suc rows) (postmer_ways ρ w m) r → PostmersAre ρ w k m r
@@ -202,8 +202,8 @@ module _ {ρ : Ranking} {w : Word} {m : ℕ} {tables : States} (s : StatesOf ρ 
       where
         each : (a : ℕ) → a < 31 → row (leb a rows) (postmer_ways ρ w m) a ≡ row (leb (m + a) k) (postmers (ranked ρ) w) a
         each a p =
-            ap (λ (t : Bool). row t (postmer_ways ρ w m) a) (ap (leb a) e ∙ row_last a (k - m) last (lasts-some q))
+            ap (λ (t : Bool). row t (postmer_ways ρ w m) a) (ap (leb a) e ∙ row_last a (k - m) last (lasts-some ρ l q))
             ∙ row-behind (leb a (k - m)) (ltb a last) (postmer_ways ρ w m) (postmers (ranked ρ) w) a
-            (postmers-table ρ s.alphabets.one w s.alphabets.word.letters (omega (arith, s.alphabets.word.long, s.alphabets.word.some)) a
-            ∙ ap₂ (λ (t : Bool) (i : ℕ). cond t (postmer_ways ρ w i a) 0) (word-allowed ρ w a (omega (arith, s.alphabets.word.long)) ∙ ap (ltb a) (sym q)) s.alphabets.word.long)
+            (postmers-table ρ one w l.letters (omega (arith, l.long, l.some)) a
+            ∙ ap₂ (λ (t : Bool) (i : ℕ). cond t (postmer_ways ρ w i a) 0) (word-allowed ρ w a (omega (arith, l.long)) ∙ ap (ltb a) (sym q)) l.long)
             ∙ ap (λ (t : Bool). row t (postmers (ranked ρ) w) a) (row-test k m a h)

@@ -124,7 +124,7 @@ impl<'s> Source<'s> {
         let mut rows = NEVER as u64;
         for j in 0..self.m {
             let left = self.own_entry(j, j, &self.states.ban) as u64;
-            rows = rows.min(left + j - self.m);
+            rows = powers::lesser(rows, left + j - self.m);
         }
         rows
     }
@@ -135,7 +135,7 @@ impl<'s> Source<'s> {
         requires { left < 64 }
         ensures { AllowedBy (min left self.now.m) self.now.states.now.next self.now.states.now.ban result }
     {
-        let few = left.min(self.m) as u8;
+        let few = powers::lesser(left, self.m) as u8;
         let mut allowed = [NOWHERE; 128];
         for (c, to) in allowed.iter_mut().enumerate() {
             *to = leads_to(few, self.states.ban[c], self.states.next[c]);
@@ -153,7 +153,7 @@ impl<'s> Source<'s> {
     {
         let r = done + 1;
         let free = self.m.saturating_sub(r + side.follow);
-        let needed = side.live.min(side.start + side.rows - done);
+        let needed = powers::lesser(side.live, side.start + side.rows - done);
         ways_row(free, needed, done, allowed, ways);
         free_row(free, r, self.powers[r as usize], ways);
         ways[(r + side.start) as usize]
@@ -206,7 +206,7 @@ impl<'s> Source<'s> {
             start: self.m,
             follow: 0,
             live,
-            rows: (self.k - self.m).min(last - 1),
+            rows: powers::lesser(self.k - self.m, last - 1),
         };
         let mut first: [u64; 64] = [0; 64];
         free_row(live, 0, 1, &mut first);

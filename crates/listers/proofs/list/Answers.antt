@@ -96,7 +96,7 @@ returns-in_err-size c =
 pub returns-then-room-size : goal.returns-then-room-size
 returns-then-room-size c =
     let args = c.args in
-    let test : (ltb (length args.room.now) c.in_ok-size.size || ltb args.each c.min.result) ≡ true = c.if-room-size.true in
+    let test : (ltb (length args.room.now) c.in_ok-size.size || ltb args.each c.lesser.result) ≡ true = c.if-room-size.true in
     refused 7 (omega arith) (keyed (word_of args.m args.key)) args.k (word_of args.m args.word) args.room.now
     ∙ answered args.k args.m args.key args.word args.each args.room.now c.in_ok-size.ensures (omega arith) test
 

@@ -66,6 +66,6 @@ pub loop-i-preserved : goal.loop-i-preserved
 loop-i-preserved c =
     let at = c.loop-i in
     let next : suc (at.i - 1) ≡ at.i = omega arith in (
-      more c.args.width c.args.left.now c.requires.0 next at.invariant.0 c.min-least.ensures,
-      more c.args.width c.args.right.now c.requires.1 next at.invariant.1 c.min-other.ensures,
+      more c.args.width c.args.left.now c.requires.0 next at.invariant.0 c.lesser-least.ensures,
+      more c.args.width c.args.right.now c.requires.1 next at.invariant.1 c.lesser-other.ensures,
     )

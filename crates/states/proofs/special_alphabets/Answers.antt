@@ -44,8 +44,8 @@ loop-p-preserved c =
     let m = c.args.m in
     let whole : suc (at.p + (m - 1 - at.p)) ≡ m = omega arith in
     let row = marks-at m c.args.key c.args.word at.p c.loop-p-test.true (letter-cut m c.args.word at.p (m - 1 - at.p) whole)
-    (letter-cut m c.args.key at.p (m - 1 - at.p) whole) c.cmp.ensures c.cmp-in-loop-p.ensures c.cmp-in-loop-p-2.ensures
-    c.cmp-in-loop-p-3.ensures in
+    (letter-cut m c.args.key at.p (m - 1 - at.p) whole) c.sign.ensures c.sign-in-loop-p.ensures c.sign-in-loop-p-2.ensures
+    c.sign-in-loop-p-3.ensures in
     (rw add-one (marked_more at.invariant.0 (omega arith) (letter-cut m c.args.word at.p (m - 1 - at.p) whole) row c.put.ensures), at.invariant.1)
 
 pub returns : goal.returns

@@ -29,4 +29,7 @@ coded-requires c =
 
 pub returns : goal.returns
 unfolding foreign_scan_outcome
-returns c = let s = c.scan_bytes in rw (c.coded.ensures, ← s.ensures) (told s.result s.new.room)
+returns c =
+    let s = c.scan_bytes in
+    let number : c.coded.result ≡ code s.result = c.coded.ensures in
+    rw (number, ← s.ensures) (told s.result s.new.room)

@@ -28,4 +28,5 @@ pub returns : goal.returns
 unfolding foreign_size_outcome
 returns c =
     let a = c.args in
-    rw (c.coded.ensures, told c.size.result (placeless a.k a.m a.key a.word c.size.result c.size.ensures), c.size.ensures)
+    let number : c.coded.result ≡ code c.size.result = c.coded.ensures in
+    rw (number, told c.size.result (placeless a.k a.m a.key a.word c.size.result c.size.ensures), c.size.ensures)

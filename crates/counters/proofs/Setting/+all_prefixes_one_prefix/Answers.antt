@@ -19,7 +19,7 @@ pub all_prefixes-returns : goal.all_prefixes-returns
 all_prefixes-returns t c =
     let s = c.args.self in
     let long = length_digits 4 s.m s.word in
-    summed-all c.loop-shared.invariant (omega (arith, c.min-shared-end.ensures, long))
+    summed-all c.loop-shared.invariant (omega (arith, c.lesser-shared-end.ensures, long))
 
 pub one_prefix-returns-then-i-self : goal.one_prefix-returns-then-i-self
 one_prefix-returns-then-i-self t c =

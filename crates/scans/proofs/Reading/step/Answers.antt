@@ -34,5 +34,5 @@ returns c =
     record {
       block = d.block;
       there = omega (arith, d.there);
-      read = step-read x.settings x.seq.now x.readable d.read i.0 (sym d.there) i.1 c.roll-word.ensures c.min.ensures;
+      read = step-read x.settings x.seq.now x.readable d.read i.0 (sym d.there) i.1 c.roll-word.ensures c.lesser.ensures;
     }

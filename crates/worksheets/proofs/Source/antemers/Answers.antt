@@ -19,13 +19,13 @@ column-requires-clause-countable c =
     ∥∥₁_map self.known
     (λ t. (
       live_ways t.0 t.1 c.reach-live.result,
-      antemer-side t.2 self.k self.in_range.1 self.in_range.2 (c.reach-live.ensures t.0 t.1 t.2) (c.ends.ensures t.0 t.1 t.2),
+      antemer-side t.2.alphabets.one t.2.alphabets.word t.2.links self.k self.in_range.1 self.in_range.2 (c.reach-live.ensures t.0 t.1 t.2) (c.ends.ensures t.0 t.1 t.2),
     ))
 
 pub returns : goal.returns
 returns c = λ ρ w t.
     let self = c.args.self.now in
     let reached = c.reach-live.ensures ρ w t in
-    antemer-column t self.k self.in_range.1 self.in_range.2 reached
+    antemer-column t.alphabets.one t.alphabets.word t.links self.k self.in_range.1 self.in_range.2 reached
     (c.column.ensures (live_ways ρ w c.reach-live.result)
-    (antemer-side t self.k self.in_range.1 self.in_range.2 reached (c.ends.ensures ρ w t)))
+    (antemer-side t.alphabets.one t.alphabets.word t.links self.k self.in_range.1 self.in_range.2 reached (c.ends.ensures ρ w t)))

@@ -1,13 +1,15 @@
 -- `worksheets::Source::caught` meets its contract.
 -- Assumes nothing.
-use Rattle.std.proofs.Common.{ℕ, suc, ◌+◌, ◌<◌, Bool, true, false, cond, ◌&&◌, ◌||◌, Ordering, Less, Equal, Greater, ◌≡◌, refl, sym, ap, ap₂, ◌∙◌, add-one, arith, le-leb, ltb, eqb, length, get_or, drop, length-drop, drop-cons}
+use Rattle.std.proofs.Common.{ℕ, suc, ◌+◌, ◌<◌, Bool, true, false, cond, ◌&&◌, ◌||◌, Ordering, ◌≡◌, refl, sym, ap, ap₂, ◌∙◌, add-one, arith, le-leb, ltb, eqb, length, get_or, drop, length-drop, drop-cons}
 use Rattle.std.specs.Ordering.{match_ordering}
 use lib.Seq.{drop-length}
 use Rattle.definitions.specs.Words.{Word}
 use Rattle.laws.specs.Numbers.{letter-lt}
 use Rattle.laws.specs.Orders.{Ranking, rank_same}
 use Rattle.laws.specs.Threads.{caught}
+use Rattle.laws.specs.Rules.{less, equal, greater}
 use Rattle.laws.specs.Acceptors.{below_hit}
+use Rattle.powers.specs.Signs.{signed}
 use Rattle.states.specs.declared.States.{States}
 use Rattle.worksheets.specs.Columns.{StatesOf, EntryIs}
 use Rattle.worksheets.proofs.Laws.{own-mark}
@@ -42,7 +44,7 @@ module _ {ρ : Ranking} {w : Word} {m : ℕ} {s : States} (t : StatesOf ρ w m s
       rest : Bool
       rest = tied_to ρ w (suc (i + j)) (suc j)
 
-      go : (a b : Bool) → (a || (b && rest)) ≡ match_ordering (cond a Less (cond b Equal Greater)) true rest false
+      go : (a b : Bool) → (a || (b && rest)) ≡ match_ordering (signed (cond a less (cond b equal greater))) true rest false
       go true b = refl
       go false true = refl
       go false false = refl

@@ -65,7 +65,7 @@ module _ {ρ : Ranking} {w : Word} {m : ℕ} {s : States} (t : StatesOf ρ w m s
   -- w's own letter leads from that state to the one that the next state falls to
   low-on : {r : ℕ} → EntryIs low i s s.next r → r ≡ fall w (i + 1)
   low-on q =
-      own-next t low i (omega (arith, low-lt e)) h q ∙ ap (λ (x : ℕ). next w x (get_or w i 0)) e.falls
+      own-next s t.alphabets.word t.links.nexts low i (omega (arith, low-lt e)) h q ∙ ap (λ (x : ℕ). next w x (get_or w i 0)) e.falls
       ∙ fall-on w i e.some (omega (arith, t.alphabets.word.long)) ∙ ap (fall w) (sym (add-one i))
 
   -- one state more is written

@@ -14,9 +14,9 @@ row-prop lo hi done allowed ways = Prim.hlevel props
 
 pub ways_row-requires : goal.ways_row-requires
 ways_row-requires c =
-    ∥∥₁_elim c.requires.ready (row-prop _ _ _ _ _) (λ t. turn-ready t.4 c.saturating_sub-free.ensures c.min-needed.ensures)
+    ∥∥₁_elim c.requires.ready (row-prop _ _ _ _ _) (λ t. turn-ready t.4 c.saturating_sub-free.ensures c.lesser-needed.ensures)
 
 pub returns : goal.returns
 returns c =
-    λ W first next ban t. turn-done t c.saturating_sub-free.ensures c.min-needed.ensures c.ways_row.ensures
+    λ W first next ban t. turn-done t c.saturating_sub-free.ensures c.lesser-needed.ensures c.ways_row.ensures
     (powers-are c.args.self.now.powers_are) c.free_row.ensures refl

@@ -12,5 +12,5 @@ returns-then-own_entry-lt-NEVER c =
     λ ρ w t. record {
       some = omega arith;
       most = omega (arith, t.alphabets.word.long);
-      stops = λ l. ban-most w (low_by ρ w) below (get_or w below 0) (omega (arith, own-ban t below inside c.own_entry.ensures));
+      stops = λ l. ban-most w (low_by ρ w) below (get_or w below 0) (omega (arith, own-ban c.args.self.now.states.now t.alphabets.word ρ t.links.bans below inside c.own_entry.ensures));
     }
