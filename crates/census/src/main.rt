@@ -292,15 +292,19 @@ impl<R: Print> Comparison<'_, R> {
         }
     }
 
-    // Goes through the shelves of four words, with each room. Answers the number of pages.
-    fn shelves(&self, found: &[u64], generator: Generator) -> Result<u64, Differs>
+    // Goes through the shelves of four words, with each room; each shelf is listed in the table. Answers the number of pages.
+    fn shelves(
+        &self,
+        found: &[u64],
+        table: &mut [u64; MOST],
+        generator: Generator,
+    ) -> Result<u64, Differs>
         requires { length found.now ≤ MOST }
     {
-        let mut table = [0; MOST];
         let mut room = [BLANK; MOST];
         let mut pages = 0u64;
         for word in self.settings.listed_words(generator) {
-            let shelf = list(word, found, &mut table);
+            let shelf = list(word, found, table);
             for takes in rooms(shelf.len()) {
                 pages = pages.wrapping_add(self.pages(word, shelf, &mut room[..takes])?);
             }
@@ -308,7 +312,7 @@ impl<R: Print> Comparison<'_, R> {
         Ok(pages)
     }
 
-    // Compares all under the key. Answers the number of pages.
+    // Compares all under the key. Answers the number of pages. Once the sizes are compared, the table of the tally takes the shelves.
     fn all(&self, generator: Generator) -> Result<u64, Differs> {
         let mut found = [0; MOST];
         let mut tally = [0; MOST];
@@ -316,7 +320,7 @@ impl<R: Print> Comparison<'_, R> {
         let words = power(self.settings.m) as usize;
         self.vigemins(&mut found[..kmers], &mut tally)?;
         self.sizes(&tally[..words])?;
-        self.shelves(&found[..kmers], generator)
+        self.shelves(&found[..kmers], &mut tally, generator)
     }
 }
 
